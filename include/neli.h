@@ -280,7 +280,10 @@ int32_t neli_c_router_read(struct neli_router *router, size_t handle, struct nel
 int32_t neli_c_router_listen(struct neli_router *router, struct neli_item *item);
 int32_t neli_c_router_item(struct neli_router *router, uint8_t *out, size_t room, size_t *length);
 int32_t neli_c_router_lend(struct neli_router *router, size_t handle, struct neli_lent *lent);
+int32_t neli_c_router_lend_items(struct neli_router *router, size_t handle, struct neli_lent *items, size_t item_room,
+                                 size_t *count);
 int32_t neli_c_router_pass(struct neli_router *router, size_t handle);
+int32_t neli_c_router_pass_items(struct neli_router *router, size_t handle, size_t count);
 int32_t neli_c_router_verdict(struct neli_router *router, size_t handle, struct neli_verdict *verdict);
 int32_t neli_c_router_give_up(struct neli_router *router, size_t handle);
 int32_t neli_c_router_close(struct neli_router *router, size_t handle);
@@ -623,12 +626,36 @@ static inline int32_t neli_router_lend(struct neli_router *router, size_t handle
     return neli_c_router_lend(router, handle, lent);
 }
 
+/* Lends the messages that come next for a handle, in order, as many as there is room for: NELI_ITEM, and `count` is
+ * their number. Each is the one that neli_router_lend lends once those before it are passed. They stay the next ones
+ * until neli_router_pass_items, and what is lent until the next call of this router. It stops before what is no
+ * message. Where that comes first, as an error, the end or a wait, `count` is 0, and the call returns what
+ * neli_router_lend does, which stores into the first place: at NELI_KERNEL_ERROR the error. NELI_ROOM if there is room
+ * for none. No memory is taken. The items past those that are stored have no bytes. */
+static inline int32_t neli_router_lend_items(struct neli_router *router, size_t handle, struct neli_lent *items,
+                                             size_t item_room, size_t *count) {
+    static struct neli_lent none[1];
+    if (router == NULL || count == NULL) return NELI_NULL;
+    if (item_room > PTRDIFF_MAX / sizeof *items || !neli_is_slice(items, item_room)) return NELI_NULL;
+    for (size_t i = 0; i < item_room; i++) {
+        items[i].bytes = neli_read_at(NULL);
+        items[i].length = 0;
+    }
+    return neli_c_router_lend_items(router, handle, items != NULL ? items : none, item_room, count);
+}
+
 /* Goes on to a handle's next item: the handle, what waits and the verdict change as by neli_router_read, so both kinds
  * of reads may take turns. Where none waits nothing changes. It takes no memory. NELI_HANDLE if the handle is not
  * open. */
 static inline int32_t neli_router_pass(struct neli_router *router, size_t handle) {
     if (router == NULL) return NELI_NULL;
     return neli_c_router_pass(router, handle);
+}
+
+/* Goes on past so many items of a handle: as so many calls of neli_router_pass. */
+static inline int32_t neli_router_pass_items(struct neli_router *router, size_t handle, size_t count) {
+    if (router == NULL) return NELI_NULL;
+    return neli_c_router_pass_items(router, handle, count);
 }
 
 /* Reports the verdict on the answer to a handle's request, by the items read from it: whether it is complete.

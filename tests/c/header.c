@@ -352,6 +352,77 @@ static void check_lent(void) {
     CHECK(neli_router_free(&router) == NELI_OK && neli_router_lend(&router, 1, &lent) == NELI_STATE);
 }
 
+/* Several items are lent at once, up to what is no message, and are passed at once. */
+static void check_lent_items(void) {
+    struct neli_router router = NELI_ROUTER_CLOSED;
+    struct neli_sent first, second;
+    struct neli_lent items[4], lent;
+    struct neli_verdict verdict;
+    uint8_t out[64];
+    size_t count = 4711;
+    /* Of handle 1 (number 0) three messages, between them one of handle 2 (number 1). */
+    const uint8_t datagram[] = {
+        20, 0, 0, 0, 16, 0, 2, 0, 0, 0, 0, 0, 9, 0, 0, 0, 1, 2, 3, 4,
+        24, 0, 0, 0, 17, 0, 2, 0, 1, 0, 0, 0, 9, 0, 0, 0, 5, 6, 7, 8, 9, 10, 11, 12,
+        16, 0, 0, 0, 18, 0, 2, 0, 0, 0, 0, 0, 9, 0, 0, 0,
+        20, 0, 0, 0, 19, 0, 2, 0, 0, 0, 0, 0, 9, 0, 0, 0, 13, 14, 15, 16,
+    };
+    /* A message before the error of number 7. */
+    const uint8_t before[] = {16, 0, 0, 0, 16, 0, 2, 0, 7, 0, 0, 0, 9, 0, 0, 0};
+    CHECK(neli_router_lend_items(&router, 1, items, 4, &count) == NELI_STATE && count == 0);
+    CHECK(neli_router_pass_items(&router, 1, 2) == NELI_STATE && neli_router_pass_items(NULL, 1, 2) == NELI_NULL);
+    CHECK(neli_router_lend_items(NULL, 1, items, 4, &count) == NELI_NULL);
+    CHECK(neli_router_lend_items(&router, 1, items, 4, NULL) == NELI_NULL);
+    CHECK(neli_router_lend_items(&router, 1, NULL, 4, &count) == NELI_NULL);
+    CHECK(neli_router_lend_items(&router, 1, items, SIZE_MAX / 32, &count) == NELI_NULL);
+    CHECK(neli_router_new(&router, 9) == NELI_OK && neli_router_pass_items(&router, 1, 2) == NELI_HANDLE);
+    CHECK(neli_router_lend_items(&router, 1, items, 4, &count) == NELI_HANDLE && count == 0);
+    CHECK(neli_router_send(&router, 18, 0x300, NULL, 0, out, sizeof out, &first) == NELI_OK);
+    CHECK(neli_router_send(&router, 18, 4, NULL, 0, out, sizeof out, &second) == NELI_OK);
+    CHECK(neli_router_lend_items(&router, first.handle, items, 4, &count) == NELI_WAITS && count == 0);
+    CHECK(items[0].bytes != NULL && items[0].length == 0);
+    CHECK(neli_router_datagram(&router, datagram, sizeof datagram, NULL, 0) == NELI_OK);
+    CHECK(neli_router_lend_items(&router, first.handle, NULL, 0, &count) == NELI_ROOM && count == 0);
+    CHECK(neli_router_lend_items(&router, first.handle, items, 2, &count) == NELI_ITEM && count == 2);
+    CHECK(items[0].message.type == 16 && items[1].message.type == 18);
+    CHECK(neli_router_lend_items(&router, first.handle, items, 4, &count) == NELI_ITEM && count == 3);
+    CHECK(items[0].message.type == 16 && items[0].length == 4 && memcmp(items[0].bytes, datagram + 16, 4) == 0);
+    CHECK(items[0].message.length == 20 && items[0].message.payload == 0 && items[0].message.payload_length == 4);
+    CHECK(items[0].error == 0 && items[1].message.type == 18 && items[1].length == 0 && items[1].error == 0);
+    CHECK(items[2].message.type == 19 && items[2].length == 4 && memcmp(items[2].bytes, datagram + 76, 4) == 0);
+    CHECK(items[3].bytes != NULL && items[3].length == 0);
+    CHECK(neli_router_lend(&router, first.handle, &lent) == NELI_ITEM && lent.bytes == items[0].bytes);
+    CHECK(neli_router_pass_items(&router, first.handle, 0) == NELI_OK);
+    CHECK(neli_router_pass_items(&router, first.handle, 2) == NELI_OK);
+    CHECK(neli_router_lend_items(&router, first.handle, items, 4, &count) == NELI_ITEM && count == 1);
+    CHECK(items[0].message.type == 19 && neli_router_pass_items(&router, first.handle, 1) == NELI_OK);
+    CHECK(neli_router_lend_items(&router, first.handle, items, 4, &count) == NELI_WAITS && count == 0);
+    CHECK(neli_router_lend_items(&router, second.handle, items, 4, &count) == NELI_ITEM && count == 1);
+    CHECK(items[0].message.type == 17 && memcmp(items[0].bytes, datagram + 36, 8) == 0);
+    CHECK(neli_router_datagram(&router, datagram, 20, NULL, 0) == NELI_OK && end_dump(&router, 0, 0, 0) == NELI_OK);
+    CHECK(neli_router_lend_items(&router, first.handle, items, 4, &count) == NELI_ITEM && count == 2);
+    CHECK(items[1].message.type == 3 && neli_router_verdict(&router, first.handle, &verdict) == NELI_WAITS);
+    CHECK(neli_router_pass_items(&router, first.handle, 3) == NELI_OK);
+    CHECK(neli_router_verdict(&router, first.handle, &verdict) == NELI_OK);
+    CHECK(neli_router_lend_items(&router, first.handle, items, 4, &count) == NELI_END && count == 0);
+    CHECK(neli_router_set_number(&router, 7) == NELI_OK);
+    CHECK(neli_router_send(&router, 18, 4, NULL, 0, out, sizeof out, &first) == NELI_OK);
+    CHECK(neli_router_datagram(&router, before, sizeof before, NULL, 0) == NELI_OK);
+    CHECK(neli_router_datagram(&router, error_bytes, sizeof error_bytes, NULL, 0) == NELI_OK);
+    CHECK(neli_router_lend_items(&router, first.handle, items, 4, &count) == NELI_ITEM && count == 1);
+    CHECK(items[0].message.type == 16 && items[1].length == 0);
+    CHECK(neli_router_pass_items(&router, first.handle, count) == NELI_OK);
+    CHECK(neli_router_lend_items(&router, first.handle, items, 4, &count) == NELI_KERNEL_ERROR && count == 0);
+    CHECK(items[0].error == -19 && items[0].length == 28 && memcmp(items[0].bytes, error_bytes + 16, 28) == 0);
+    CHECK(items[1].length == 0 && neli_router_pass(&router, first.handle) == NELI_OK);
+    CHECK(neli_router_lend_items(&router, first.handle, items, 4, &count) == NELI_END && count == 0);
+    CHECK(neli_router_fault(&router, 104) == NELI_OK);
+    CHECK(neli_router_lend_items(&router, second.handle, items, 4, &count) == NELI_ITEM && count == 1);
+    CHECK(neli_router_pass_items(&router, second.handle, 1) == NELI_OK);
+    CHECK(neli_router_lend_items(&router, second.handle, items, 4, &count) == NELI_LINK && count == 0);
+    CHECK(neli_router_free(&router) == NELI_OK);
+}
+
 /* Handles that were closed are given again, the last one first, and then new ones; the others stay, and multicast's is
  * never given. */
 static void check_handles(void) {
@@ -385,6 +456,7 @@ int main(void) {
     check_router();
     check_verdicts();
     check_lent();
+    check_lent_items();
     check_handles();
     printf("header.c: %s\n", failures == 0 ? "each call answers as include/neli.h says" : "failed");
     return failures != 0;
