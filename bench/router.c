@@ -22,6 +22,9 @@
 
 enum { OPEN = 100000, MESSAGES = 1000000, STRAYS = 100000 };
 
+/* How many messages are lent at once. */
+enum { ITEMS = 32 };
+
 /* How many times libmnl's walk over a header a message may take, and opening or closing a handle. */
 enum { MOST_OF_A_MESSAGE = 40, MOST_OF_A_HANDLE = 100 };
 
@@ -148,11 +151,27 @@ static unsigned lend_one(struct neli_router *router, size_t handle) {
     return 1;
 }
 
-/* How a message is read. */
+/* Reads the messages that wait for a handle where the router keeps them, as many by a call as there is room for. */
+static unsigned lend_all(struct neli_router *router, size_t handle) {
+    struct neli_lent items[ITEMS];
+    unsigned all = 0;
+    size_t count;
+    int32_t code;
+    while ((code = neli_router_lend_items(router, handle, items, ITEMS, &count)) == NELI_ITEM) {
+        for (size_t i = 0; i < count; i++)
+            if (items[i].message.length != 16) fail("a message is not lent");
+        if (neli_router_pass_items(router, handle, count) != NELI_OK) fail("messages are not passed");
+        all += (unsigned)count;
+    }
+    if (code != NELI_WAITS) fail("messages are not lent");
+    return all;
+}
+
+/* How messages are read: one, or all that wait for a handle. */
 typedef unsigned reader(struct neli_router *router, size_t handle);
 
 /* Does what a script says, and ends the process. */
-static void play(const struct script *s, reader *one) {
+static void play(const struct script *s, reader *read) {
     struct neli_router router = NELI_ROUTER_CLOSED;
     size_t *handles = malloc(s->open * sizeof *handles);
     unsigned items = 0;
@@ -161,15 +180,16 @@ static void play(const struct script *s, reader *one) {
     if (s->dropped) neli_router_close(&router, NELI_MULTICAST);
     for (unsigned i = 0; i < s->messages; i += s->batch) {
         for (unsigned k = i; k < i + s->batch; k++) hand_in(&router, s->dropped, s->over ? k % s->over : ~0u);
-        for (unsigned k = i; s->over && k < i + s->batch; k++) items += one(&router, handles[k % s->over]);
+        unsigned reads = read == lend_all && s->over < s->batch ? s->over : s->batch;
+        for (unsigned k = i; s->over && k < i + reads; k++) items += read(&router, handles[k % s->over]);
     }
     _exit(items != items_of(s));
 }
 
-static struct cost run_by(reader *one, const struct script *s) {
+static struct cost run_by(reader *read, const struct script *s) {
     pid_t child = fork();
     if (child < 0) fail("no process");
-    if (!child) play(s, one);
+    if (!child) play(s, read);
     return cost_of(child, "not each message was read once through C");
 }
 
@@ -182,6 +202,11 @@ static struct cost run_calls(const char *tool, const struct script *s) {
 static struct cost run_lent(const char *tool, const struct script *s) {
     (void)tool;
     return run_by(lend_one, s);
+}
+
+static struct cost run_lent_at_once(const char *tool, const struct script *s) {
+    (void)tool;
+    return run_by(lend_all, s);
 }
 
 /* ---- libmnl, and handles by themselves */
@@ -276,7 +301,9 @@ static bool compare(const char *tool, double header, struct script kept, unsigne
     if (kept.over) {
         printf("  ");
         lent = compare_by(run_lent, tool, kept);
-        printf(" %5.0f %5.0f", read / header, lent / header);
+        printf("  ");
+        double at_once = compare_by(run_lent_at_once, tool, kept);
+        printf(" %5.0f %5.0f %5.0f", read / header, lent / header, at_once / header);
     }
     printf("\n");
     fflush(stdout);
@@ -311,10 +338,10 @@ int main(int argc, char **argv) {
     double header = header_time(argv[2]);
     printf("libmnl's walk over a header: %.1f ns\n", header);
     printf("%d messages of 16 bytes, a datagram each, with %d open handles\n\n", MESSAGES, OPEN);
-    puts(" waiting  handles     neli_tool: ns a message      MB      through C: ns a message      MB"
-         "           lent: ns a message      MB  times a header");
+    printf(" waiting  handles     neli_tool: ns a message      MB      through C: ns a message      MB"
+           "           lent: ns a message      MB   lent, %2d at once: ns a message      MB  times a header\n", ITEMS);
     puts(" at most they are      all dropped  differ     all        all dropped  differ     all"
-         "        all dropped  differ     all   read  lent");
+         "        all dropped  differ     all        all dropped  differ     all   read  lent at once");
     for (unsigned batch = 1000; batch <= MESSAGES; batch *= 1000)
         for (int i = 0; i < 3; i++) {
             struct script script = {OPEN, MESSAGES, handles[i], batch, false};
