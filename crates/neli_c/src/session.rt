@@ -549,11 +549,11 @@ impl Session {
             × PassesTimes count h after self.old self.new) }
         ensures missed { MissesSame self.old self.new }
     {
-        let Some(mut passed) = take(&mut self.handles, k, 0) else {
+        let Some(mut reader) = take(&mut self.handles, k, 0) else {
             return HANDLE;
         };
-        self.go_past_items(&mut passed, count);
-        self.handles[k] = Slot::Open(passed);
+        self.go_past_items(&mut reader, count);
+        self.handles[k] = Slot::Open(reader);
         OK
     }
 

@@ -12,7 +12,7 @@ use Rattle.neli_c.proofs.session.Session.pass_items.Goals as goal
 pub returns-clause-some : goal.returns-clause-some
 returns-clause-some c =
     let s = c.args.self.now in
-    let h : HandleState = c.in-Some.passed in
+    let h : HandleState = c.in-Some.reader in
     let after : HandleState = c.go_past_items.new.handle in
     let r = c.go_past_items.ensures in
     let out = ap (λ v. v.items) r.handles ∙ (c.in-Some.ensures.some refl).1 in
