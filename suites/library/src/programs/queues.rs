@@ -11,17 +11,13 @@ use neli::short::{Client, Lookup};
 use std::alloc::Global;
 use std::test::Fail;
 
-/// The path to these counters in the attributes of a discipline.
-fn counters(kind: TcaStats) -> [u16; 2] {
-    [Tca::Stats2.to_wire(), kind.to_wire()]
-}
-
 /// A line of a discipline, as `tbf 8002: below root, link 4, sent 150, 0 wait`.
 fn line(alloc: Global, queue: &Tcmsg) -> Result<String, Fail> {
     let attrs = queue.rtattrs();
     let kind = attrs.get_str(Tca::Kind)?.unwrap_or("?");
-    let sent: Option<GnetStatsBasic> = attrs.get_path(alloc, &counters(TcaStats::Basic))?;
-    let wait: Option<GnetStatsQueue> = attrs.get_path(alloc, &counters(TcaStats::Queue))?;
+    let path = |counter: TcaStats| [Tca::Stats2.to_wire(), counter.to_wire()];
+    let sent: Option<GnetStatsBasic> = attrs.get_path(alloc, &path(TcaStats::Basic))?;
+    let wait: Option<GnetStatsQueue> = attrs.get_path(alloc, &path(TcaStats::Queue))?;
     let (bytes, packets) = (sent.map_or(0, |it| it.bytes), wait.map_or(0, |it| it.qlen));
     let own = TcHandle::from_wire(*queue.tcm_handle());
     let parent = TcHandle::from_wire(*queue.tcm_parent());
@@ -29,12 +25,8 @@ fn line(alloc: Global, queue: &Tcmsg) -> Result<String, Fail> {
     Ok(format!(in alloc; "{kind} {own} below {parent}, link {link}, sent {bytes}, {packets} wait")?)
 }
 
-/// The lines of all disciplines, of the kernel's answer in these datagrams.
-pub fn list(
-    alloc: Global,
-    router: &mut NlRouter,
-    datagrams: &[Vec<u8>],
-) -> Result<Vec<String>, Fail> {
+/// The lines of all disciplines, from the datagrams of the kernel's answer.
+pub fn list(alloc: Global, router: &mut NlRouter, answer: &[Vec<u8>]) -> Result<Vec<String>, Fail> {
     let all = TcmsgBuilder::default()
         .tcm_family(0)
         .tcm_ifindex(0)
@@ -44,7 +36,7 @@ pub fn list(
         .build(alloc)?;
     // Your link sends `request.bytes`, and the datagrams come back.
     let mut request = router.request(alloc, Rtm::Getqdisc, NlmF::DUMP, all)?;
-    for datagram in datagrams {
+    for datagram in answer {
         router.receive_for(alloc, datagram, &[])?;
     }
     let mut lines = Vec::new(alloc);
