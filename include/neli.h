@@ -652,8 +652,7 @@ static inline int32_t neli_router_pass(struct neli_router *router, size_t handle
     return neli_c_router_pass(router, handle);
 }
 
-/* Goes on past so many items of a handle: as so many calls of neli_router_pass, a step for each of `count`, also where
- * fewer wait. */
+/* Goes on past so many items of a handle, or past all that wait: as so many calls of neli_router_pass. */
 static inline int32_t neli_router_pass_items(struct neli_router *router, size_t handle, size_t count) {
     if (router == NULL) return NELI_NULL;
     return neli_c_router_pass_items(router, handle, count);

@@ -397,12 +397,13 @@ static void check_lent_items(void) {
     CHECK(neli_router_lend_items(&router, first.handle, items, 4, &count) == NELI_ITEM && count == 1);
     CHECK(items[0].message.type == 19 && neli_router_pass_items(&router, first.handle, 1) == NELI_OK);
     CHECK(neli_router_lend_items(&router, first.handle, items, 4, &count) == NELI_WAITS && count == 0);
+    CHECK(neli_router_pass_items(&router, first.handle, SIZE_MAX) == NELI_OK);
     CHECK(neli_router_lend_items(&router, second.handle, items, 4, &count) == NELI_ITEM && count == 1);
     CHECK(items[0].message.type == 17 && memcmp(items[0].bytes, datagram + 36, 8) == 0);
     CHECK(neli_router_datagram(&router, datagram, 20, NULL, 0) == NELI_OK && end_dump(&router, 0, 0, 0) == NELI_OK);
     CHECK(neli_router_lend_items(&router, first.handle, items, 4, &count) == NELI_ITEM && count == 2);
     CHECK(items[1].message.type == 3 && neli_router_verdict(&router, first.handle, &verdict) == NELI_WAITS);
-    CHECK(neli_router_pass_items(&router, first.handle, 3) == NELI_OK);
+    CHECK(neli_router_pass_items(&router, first.handle, SIZE_MAX) == NELI_OK);
     CHECK(neli_router_verdict(&router, first.handle, &verdict) == NELI_OK);
     CHECK(neli_router_lend_items(&router, first.handle, items, 4, &count) == NELI_END && count == 0);
     CHECK(neli_router_set_number(&router, 7) == NELI_OK);

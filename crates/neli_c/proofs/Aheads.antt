@@ -29,7 +29,7 @@ use Rattle.neli_router.specs.declared.router.NlRouter.{NlRouter}
 use Rattle.neli_c.specs.declared.lending.NeliLent.{NeliLent}
 use Rattle.neli_c.specs.declared.session.Session.{Session}
 use Rattle.neli_c.specs.Ahead.{AreLent, IsLentAs, LendsFirst, Message, PassesTimes, message_in, messages_ahead}
-use Rattle.neli_c.specs.Ahead.{messages_at, messages_for, messages_from, messages_of}
+use Rattle.neli_c.specs.Ahead.{is_rest, messages_at, messages_for, messages_from, messages_of}
 use Rattle.neli_c.specs.Codes.{item, no_handle}
 use Rattle.neli_c.specs.Lending.{LendsHandle, LendsPlace, PassesHandle, Stores, lent_code}
 use Rattle.neli_c.specs.Sessions.{pending, socket_code}
@@ -256,6 +256,81 @@ once-more (suc n) h g k s t u times passes =
     let same : suc (n + 1) ≡ suc n + 1 = omega arith in
     subst (λ (m : ℕ). PassesTimes m h k s u) same
     (times.0, times.1, times.2, once-more n times.0 g k times.1 t u times.3 passes)
+
+-- ---- passes where nothing comes next
+
+module _ (h : HandleState) (s : Session) where
+  stays-ended : h.ended ≡ true → PassesHandle h h s s
+  stays-ended ended = (
+    λ _. (refl, refl),
+    λ open_ none. absurd (let f = sym ended ∙ open_ in cc),
+    λ _ none. (refl, refl),
+    λ open_ d ds some. absurd (let f = sym ended ∙ open_ in cc),
+    λ open_ d ds some. absurd (let f = sym ended ∙ open_ in cc),
+    λ w other. refl,
+    λ w other. refl,
+    refl,
+    refl,
+    refl,
+  )
+
+  stays-empty : pending s h.number ≡ Some [] → PassesHandle h h s s
+  stays-empty empty = (
+    λ _. (refl, refl),
+    λ open_ none. absurd (let f = sym none ∙ empty in cc),
+    λ _ none. (refl, refl),
+    λ open_ d ds some. absurd (let f = sym some ∙ empty in cc),
+    λ open_ d ds some. absurd (let f = sym some ∙ empty in cc),
+    λ w other. refl,
+    λ w other. refl,
+    refl,
+    refl,
+    refl,
+  )
+
+  no-rest : (r : LentReply) (i : Item ℕ (List ℕ)) → is_rest r ≡ true → IsLentReply i r → PassesHandle h h s s
+  no-rest (reply.Item l) i rest lends = absurd cc
+  no-rest reply.End i rest lends = absurd lends
+  no-rest reply.Waits i rest lends = absurd lends
+
+  stays-open : (r : LentReply) (w : Option (List Delivery)) → pending s h.number ≡ w → is_rest r ≡ true
+      → (pending s h.number ≡ None → r ≡ reply.Item (Err error.ClosedChannel))
+      → ((d : Delivery) (ds : List Delivery) → pending s h.number ≡ Some (d ∷ ds) → IsLentReply (item_at h d) r)
+      → PassesHandle h h s s
+  stays-open r None is rest closed lends = absurd (let f = sym (ap is_rest (closed is)) ∙ rest in cc)
+  stays-open r (Some []) is rest closed lends = stays-empty is
+  stays-open r (Some (d ∷ ds)) is rest closed lends = no-rest r (item_at h d) rest (lends d ds is)
+
+  -- a pass changes nothing where nothing comes next
+  pub stays-by : (r : LentReply) (b : Bool) → h.ended ≡ b → is_rest r ≡ true
+      → (h.ended ≡ false → pending s h.number ≡ None → r ≡ reply.Item (Err error.ClosedChannel))
+      → (h.ended ≡ false → (d : Delivery) (ds : List Delivery) → pending s h.number ≡ Some (d ∷ ds)
+      → IsLentReply (item_at h d) r) → PassesHandle h h s s
+  stays-by r true is rest closed lends = stays-ended is
+  stays-by r false is rest closed lends = stays-open r (pending s h.number) refl rest (closed is) (lends is)
+
+rest-times : (n : ℕ) (h : HandleState) (s : Session) → PassesHandle h h s s → PassesTimes n h h s s
+rest-times zero h s stays = (refl, refl)
+rest-times (suc n) h s stays = (h, s, stays, rest-times n h s stays)
+
+times-more : (n m : ℕ) (h g : HandleState) (s t : Session) → PassesTimes n h g s t → PassesHandle g g t t
+    → PassesTimes (n + m) h g s t
+times-more zero m h g s t times stays =
+    let same : m ≡ zero + m = omega arith in
+    subst (λ (k : ℕ). PassesTimes k h g s t) same
+    (subst (λ (x : HandleState). PassesTimes m x g s t) times.0
+    (times-of m g g t s t t (sym times.1) refl (rest-times m g t stays)))
+times-more (suc n) m h g s t times stays =
+    let same : suc (n + m) ≡ suc n + m = omega arith in
+    subst (λ (k : ℕ). PassesTimes k h g s t) same
+    (times.0, times.1, times.2, times-more n m times.0 g times.1 t times.3 stays)
+
+-- and so the passes that are left
+pub times-left : (n all : ℕ) (h g : HandleState) (s t : Session) → n < all → PassesTimes n h g s t
+    → PassesHandle g g t t → PassesTimes all h g s t
+times-left n all h g s t few times stays =
+    let whole : n + (all - n) ≡ all = omega (arith, few) in
+    subst (λ (k : ℕ). PassesTimes k h g s t) whole (times-more n (all - n) h g s t times stays)
 
 -- ---- several are what single lends give, once those before them are passed
 

@@ -1,6 +1,6 @@
 -- Several items of a handle at once: the messages that single lends give, each once those before it are passed; and so
 -- many steps past them.
-use Rattle.std.specs.Prelude.{◌≡◌, ◌≢◌, ◌≤◌, ⊤, ℕ, zero, suc, ℤ, pos, if◌then◌else◌, List, [], ◌∷◌, length, take}
+use Rattle.std.specs.Prelude.{◌≡◌, ◌≢◌, ◌≤◌, ⊤, ℕ, zero, suc, ℤ, pos, if◌then◌else◌, Bool, true, false, List, [], ◌∷◌, length, take}
 use Rattle.std.specs.Prelude.{drop, Option, Some, None, Ok, Err, IfSome, slice_set}
 use Rattle.neli_reader.specs.Framed.{Nlmsghdr}
 use Rattle.neli_lent.specs.Messages.{message_said}
@@ -53,6 +53,12 @@ messages_at k s = messages_for s (handle_at k s.handles.items)
 -- of what neli_router lends ahead
 abbrev pub messages_in : ItemsAhead → List Message
 messages_in a = messages_of a.state a.waiting
+
+-- nothing comes next: the handle has ended, or nothing has arrived yet
+abbrev pub is_rest : LentReply → Bool
+is_rest (reply.Item _) = false
+is_rest reply.End = true
+is_rest reply.Waits = true
 
 -- the message of its reply
 abbrev pub message_in : LentReply → Option (LentMessage ℕ)

@@ -3,7 +3,7 @@
 ghost use Rattle.std.specs.Prelude.{◌≡◌, IfSome, IsNone, ◌∷◌, [], pos};
 ghost use Rattle.neli_lent.specs.Messages.{message_said};
 ghost use Rattle.neli_log.specs.Lending.{Lends};
-ghost use Rattle.neli_c.specs.Ahead.{Message, StoresAhead, message_in, messages_in};
+ghost use Rattle.neli_c.specs.Ahead.{Message, StoresAhead, is_rest, message_in, messages_in};
 
 use crate::lending::{NeliLent, stored};
 use neli_lent::LentMessage;
@@ -17,6 +17,13 @@ fn message_in<'r>(reply: LentReply<'r>) -> Option<LentMessage<'r, u16>>
         LentReply::Item(Ok(message)) => Some(message),
         _ => None,
     }
+}
+
+/// Whether nothing comes next: the handle has ended, or nothing has arrived yet.
+pub(crate) fn is_rest(reply: &LentReply<'_>) -> bool
+    ensures { result ≡ is_rest reply.now }
+{
+    matches!(reply, LentReply::End | LentReply::Waits)
 }
 
 /// Lends the next message, if one comes next.

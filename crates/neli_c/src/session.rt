@@ -1,7 +1,7 @@
 //! A router with its handles, and the item that was read last.
 
 ghost use Rattle.std.specs.Prelude.{◌≡◌, ◌≢◌, ◌<◌, ℕ, IfOk, IfSome, IsNone, IsSome, List, ◌∷◌, Some};
-ghost use Rattle.std.specs.Prelude.{None, length};
+ghost use Rattle.std.specs.Prelude.{IsTrue, None, length};
 ghost use Rattle.std.specs.Prelude.{option_map, slice_get, slice_set};
 ghost use Rattle.std.specs.Prelude.{vec_capacity, vec_len};
 ghost use Rattle.neli_router.specs.declared.handle.HandleState.{HandleState};
@@ -23,7 +23,7 @@ ghost use Rattle.neli_c.specs.Listens.{HoldsNotice, Listens, Misses, MissesSame,
 ghost use Rattle.neli_c.specs.Slots.{AreFree, handle_at, later_places, next_place, put_at};
 ghost use Rattle.neli_c.specs.declared.session.Slot.TheVariants as slot;
 
-use crate::ahead::fill;
+use crate::ahead::{fill, is_rest};
 use crate::code::{HANDLE, ITEM, KERNEL_ERROR, LENGTH, LINK, MEMORY, OK, OVERRUN, ROOM, WAITS};
 use crate::lending::{NeliLent, give};
 use crate::outcome::{filtered_byte, is_overrun, kind_of, of_error, of_verdict, verdict_error};
@@ -557,7 +557,7 @@ impl Session {
         OK
     }
 
-    /// Goes on past so many items of this handle, which has left its place.
+    /// Goes on past so many items of this handle, which has left its place, or past all that wait.
     fn go_past_items(&mut self, handle: &mut Handle, count: usize)
         ensures passes { PassesTimes count handle.old handle.new self.old self.new }
         ensures handles { self.new.handles ≡ self.old.handles }
@@ -566,8 +566,18 @@ impl Session {
         ensures missed { MissesSame self.old self.new }
     {
         for done in 0..count {
+            if self.is_past(handle) {
+                return;
+            }
             self.go_past(handle);
         }
+    }
+
+    /// Whether nothing comes next for this handle, so that a step past it changes nothing.
+    fn is_past(&self, handle: &Handle) -> bool
+        ensures { IsTrue result → PassesHandle handle.now handle.now self.now self.now }
+    {
+        is_rest(&self.router.lend_next(handle))
     }
 
     /// Goes on to the next item of this handle, which has left its place.
