@@ -94,7 +94,7 @@ set attrs
 ";
 
 /// The attribute, its payload, and what is printed as text, and in JSON.
-const VALUES: [(&str, &[u8], &str, &str); 74] = [
+const VALUES: [(&str, &[u8], &str, &str); 82] = [
     ("FLAG", b"", "", "true"),
     (
         "FLAG",
