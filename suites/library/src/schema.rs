@@ -1,5 +1,6 @@
 //! Messages by the tables of their families, by the paths of `neli::schema`.
 
+use neli::consts::nl::NlmF;
 use neli::lent::LentMessages;
 use neli::schema::{
     Head, PathText, Payload, PayloadText, ReadError, RoutingTable, Shape, Step, Table, Tables,
@@ -104,7 +105,7 @@ fn visits_count_the_lists_around(rt: HostRuntime) -> Result<(), Fail> {
     let head = Head {
         protocol: 0,
         message_type: 16,
-        flags: 0,
+        flags: NlmF::empty(),
     };
     let text = match body_of(&tables, head, LINK).walk() {
         Some(walk) => visited(alloc, walk)?,
