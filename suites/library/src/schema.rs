@@ -111,6 +111,6 @@ fn visits_count_the_lists_around(rt: HostRuntime) -> Result<(), Fail> {
         Some(walk) => visited(alloc, walk)?,
         None => String::new(alloc),
     };
-    assert_eq!(rt; text.as_str(), "1:18 2:1 1:4 2:rest of 1 ");
+    assert_eq!(rt; text.as_str(), "1:18 2:1 1:4 1:rest of 1 ");
     Ok(())
 }
