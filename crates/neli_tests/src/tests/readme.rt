@@ -24,7 +24,7 @@ fn first_address(
         .ifa_index(3)
         .build(alloc)?;
     let mut request = router.request(alloc, Rtm::Getaddr, NlmF::DUMP, of_link)?;
-    // Your link sends `request.bytes`, and `datagram` comes back.
+    // Your socket, with NETLINK_GET_STRICT_CHK set, sends `request.bytes`, and `datagram` comes back.
     router.receive_for(alloc, datagram, &[])?;
     let mut address: Option<Ipv4Addr> = None;
     if let Next::Message(message) = router.next(alloc, &mut request.handle)? {
