@@ -18,7 +18,7 @@ use std::marker::Model;
 
 impl<T: Drop> Places<T> {
     /// The position of the first entry that this list waits for from a place on, if there is one.
-    fn next_from(&self, whose: Option<u32>, p: &Place) -> Option<u64>
+    pub(crate) fn next_from(&self, whose: Option<u32>, p: &Place) -> Option<u64>
         requires sound { IsSound self.now }
         requires stands { StandsAt whose self.now p.now }
         ensures next { result ≡ next_position self.now whose p.now }
@@ -33,12 +33,13 @@ impl<T: Drop> Places<T> {
     }
 
     /// The place past the entry at position `m`, its first, which goes to this list only.
-    fn past_own(&self, whose: Option<u32>, p: Place, m: u64) -> Place
+    pub(crate) fn past_own(&self, whose: Option<u32>, p: Place, m: u64) -> Place
         requires sound { IsSound self.now }
         requires stands { StandsAt whose self.now p }
         requires next { next_position self.now whose p ≡ Some m }
         requires route { RouteAt self.now m (λ r. leads_only whose r ≡ true) }
         ensures from { result.from ≡ m + 1 }
+        ensures passed { result.shared_passed ≡ p.shared_passed }
         ensures stands { StandsAt whose self.now result }
     {
         let link = self.links[(m - self.base) as usize];

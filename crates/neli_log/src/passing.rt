@@ -8,7 +8,6 @@ ghost use Rattle.neli_log.specs.Places.{IsPlace, CountsPassed, IsSound, KeepsPla
 ghost use Rattle.neli_log.specs.Places.{entries_of, next_position, pending_of, place_of};
 ghost use Rattle.neli_log.specs.Routes.{is_shared, leads_only};
 
-use crate::chains::{lesser_of, start, without_first};
 use crate::counts::{lower, raise};
 use crate::hints::put;
 use crate::place::Place;
@@ -35,11 +34,7 @@ impl<T: Drop> Places<T> {
         ensures within { IfSome result (λ m. (self.now.base ≤ m)
             × (m - self.now.base < length (entries_of self.now))) }
     {
-        let first = start(p.chain);
-        match whose {
-            None => first,
-            Some(_) => lesser_of(first, self.shared_position(p.shared_passed)),
-        }
+        self.next_from(whose, p)
     }
 
     /// Moves multicast's place past the entry at position `m`, its first.
@@ -117,11 +112,6 @@ impl<T: Drop> Places<T> {
         ensures counted { (q : ℕ) → whose ≡ Some q
             → CountsPassed self.now.shared_base self.now.base self.now.entries.items result }
     {
-        let link = self.links[(m - self.base) as usize];
-        Place {
-            from: m + 1,
-            chain: without_first(p.chain, link),
-            shared_passed: p.shared_passed,
-        }
+        self.past_own(whose, p, m)
     }
 }
