@@ -5,8 +5,8 @@
 //! - [`lists`] finds lists of attributes and looks attributes up, and [`answer`] reads errors and acknowledgements.
 //! - [`write`] writes messages, attributes and nests into the caller's bytes.
 //! - [`router`] has a router behind a struct that the library alone looks into: [`session`] is what it holds,
-//!   [`outcome`] the codes of what it returns, [`lending`] an item where the router keeps it, [`ahead`] several,
-//!   [`place`] and [`opaque`] are how C holds that.
+//!   [`lent_reads`] its reads without a copy, [`outcome`] the codes of what it returns, [`lending`] an item where the
+//!   router keeps it, [`ahead`] several, [`place`] and [`opaque`] are how C holds that.
 //! - [`kernel`] makes a kernel's answers to a request, and [`dump`] those in several messages: [`dumping`] is what a
 //!   dump holds, [`dump_place`] and [`dump_opaque`] are how C holds that.
 //! - [`tables`] has families' tables, [`printed`] messages by them as text and as JSON, and [`named`] their attributes
@@ -28,6 +28,7 @@ pub mod kernel;
 pub mod laws;
 pub mod lending;
 pub mod lent;
+pub mod lent_reads;
 pub mod lists;
 pub mod named;
 pub mod naming;

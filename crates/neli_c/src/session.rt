@@ -1,7 +1,7 @@
 //! A router with its handles, and the item that was read last.
 
 ghost use Rattle.std.specs.Prelude.{◌≡◌, ◌≢◌, ◌<◌, ℕ, IfOk, IfSome, IsNone, IsSome, List, ◌∷◌, Some};
-ghost use Rattle.std.specs.Prelude.{IsTrue, None, length};
+ghost use Rattle.std.specs.Prelude.{None, length};
 ghost use Rattle.std.specs.Prelude.{option_map, slice_get, slice_set};
 ghost use Rattle.std.specs.Prelude.{vec_capacity, vec_len};
 ghost use Rattle.neli_router.specs.declared.handle.HandleState.{HandleState};
@@ -12,8 +12,6 @@ ghost use Rattle.neli_c.specs.Sessions.{SendsNothing, SendsRequest, SetsNumber, 
 ghost use Rattle.neli_c.specs.Sessions.{TakesFault, TakesKind, WritesItem};
 ghost use Rattle.neli_c.specs.Sessions.{error_flags, error_message, item_code, item_message};
 ghost use Rattle.neli_c.specs.Sessions.{item_shown, reply_code, shown_of};
-ghost use Rattle.neli_c.specs.Ahead.{LendsFirst, LendsItems, PassesTimes, StoresAhead, messages_at};
-ghost use Rattle.neli_c.specs.Lending.{LendsHandle, PassesHandle};
 ghost use Rattle.neli_c.specs.Verdicts.{GivesUpHandle, HearsHandle, TellsVerdict};
 ghost use Rattle.neli_router.specs.Listening.{missed_with};
 ghost use Rattle.neli_router.specs.declared.listening.Missed.TheVariants as missed;
@@ -23,9 +21,7 @@ ghost use Rattle.neli_c.specs.Listens.{HoldsNotice, Listens, Misses, MissesSame,
 ghost use Rattle.neli_c.specs.Slots.{AreFree, handle_at, later_places, next_place, put_at};
 ghost use Rattle.neli_c.specs.declared.session.Slot.TheVariants as slot;
 
-use crate::ahead::{fill, is_rest};
 use crate::code::{HANDLE, ITEM, KERNEL_ERROR, LENGTH, LINK, MEMORY, OK, OVERRUN, ROOM, WAITS};
-use crate::lending::{NeliLent, give};
 use crate::outcome::{filtered_byte, is_overrun, kind_of, of_error, of_verdict, verdict_error};
 use crate::write::copy;
 use neli_attr::Buffer;
@@ -39,7 +35,7 @@ use std::alloc::Global;
 use std::io::ErrorKind;
 use std::mem::replace;
 
-type Handle = NlRouterReceiverHandle<u16, Buffer>;
+pub(crate) type Handle = NlRouterReceiverHandle<u16, Buffer>;
 
 type Message = Nlmsghdr<u16, Buffer>;
 
@@ -89,14 +85,14 @@ pub enum Slot {
 /// A router, its handles by their places, the place that was freed last, or 0, and the last item as a message.
 #[derive(Drop)]
 pub struct Session {
-    router: NlRouter<Log>,
-    handles: Vec<Slot>,
+    pub(crate) router: NlRouter<Log>,
+    pub(crate) handles: Vec<Slot>,
     freed: usize,
     held: Option<Message>,
 }
 
 /// The handle at a place, if there is one.
-fn handle_of(handles: &[Slot], k: usize) -> Option<&Handle>
+pub(crate) fn handle_of(handles: &[Slot], k: usize) -> Option<&Handle>
     ensures { option_map (λ h. h.now) result ≡ handle_at k handles.now }
 {
     match handles.get(k) {
@@ -106,7 +102,7 @@ fn handle_of(handles: &[Slot], k: usize) -> Option<&Handle>
 }
 
 /// Removes the handle from a place, if there is one, and returns the free place after it.
-fn take(handles: &mut Vec<Slot>, k: usize, next: usize) -> Option<Handle>
+pub(crate) fn take(handles: &mut Vec<Slot>, k: usize, next: usize) -> Option<Handle>
     ensures taken { result ≡ handle_at k handles.old.items }
     ensures some { IsSome result → (k < length handles.new.items)
         × (handles.new.items ≡ slice_set handles.old.items k (slot.Free next)) }
@@ -468,127 +464,6 @@ impl Session {
             .next_typed::<u16, Buffer, _, _>(alloc, &mut handle);
         self.handles[k] = Slot::Open(handle);
         hold(answer, &mut self.held, item)
-    }
-
-    /// Lends the next item of a handle, which stays the next one.
-    pub fn lend<'r>(&'r self, k: usize, lent: &mut NeliLent<'r>) -> i32
-        ensures none { handle_at k self.now.handles.items ≡ None
-            → (result ≡ no_handle) × (lent.new ≡ lent.old) }
-        ensures some { IfSome (handle_at k self.now.handles.items)
-            (λ h. LendsHandle result h self.now lent.old lent.new) }
-    {
-        let Some(reader) = handle_of(&self.handles, k) else {
-            return HANDLE;
-        };
-        give(self.router.lend_next(reader), lent)
-    }
-
-    /// Lends the messages that come next for a handle, as many as there is room for: returns their number.
-    fn lend_ahead<'r>(&'r self, k: usize, items: &mut [NeliLent<'r>]) -> usize
-        ensures { StoresAhead result (messages_at k self.now) items.old items.new }
-    {
-        match handle_of(&self.handles, k) {
-            Some(reader) => fill(&mut self.router.lend_items(reader), items),
-            None => 0,
-        }
-    }
-
-    /// Lends the next item of a handle into the first place.
-    fn lend_first<'r>(&'r self, k: usize, items: &mut [NeliLent<'r>]) -> i32
-        ensures { LendsFirst result k self.now items.old items.new }
-    {
-        if items.is_empty() {
-            return ROOM;
-        }
-        self.lend(k, &mut items[0])
-    }
-
-    /// Lends the next items of a handle, which stay the next ones.
-    pub fn lend_items<'r>(&'r self, k: usize, items: &mut [NeliLent<'r>], count: &mut usize) -> i32
-        ensures { LendsItems result k self.now items.old items.new count.new }
-    {
-        *count = self.lend_ahead(k, items);
-        if *count > 0 {
-            ITEM
-        } else {
-            self.lend_first(k, items)
-        }
-    }
-
-    /// Goes on to a handle's next item.
-    pub fn pass(&mut self, k: usize) -> i32
-        ensures none { handle_at k self.old.handles.items ≡ None
-            → (result ≡ no_handle) × (self.new ≡ self.old) }
-        ensures some { IfSome (handle_at k self.old.handles.items) (λ h. (after : HandleState)
-            × (result ≡ ok)
-            × (self.new.handles.items ≡ slice_set self.old.handles.items k (slot.Open after))
-            × (self.new.freed ≡ self.old.freed)
-            × ((ks : List ℕ) → HasFree self.old ks → HasFree self.new ks)
-            × (self.new.held ≡ self.old.held)
-            × PassesHandle h after self.old self.new) }
-        ensures missed { MissesSame self.old self.new }
-    {
-        let Some(mut passed) = take(&mut self.handles, k, 0) else {
-            return HANDLE;
-        };
-        self.go_past(&mut passed);
-        self.handles[k] = Slot::Open(passed);
-        OK
-    }
-
-    /// Goes on past so many items of a handle.
-    pub fn pass_items(&mut self, k: usize, count: usize) -> i32
-        ensures none { handle_at k self.old.handles.items ≡ None
-            → (result ≡ no_handle) × (self.new ≡ self.old) }
-        ensures some { IfSome (handle_at k self.old.handles.items) (λ h. (after : HandleState)
-            × (result ≡ ok)
-            × (self.new.handles.items ≡ slice_set self.old.handles.items k (slot.Open after))
-            × (self.new.freed ≡ self.old.freed)
-            × ((ks : List ℕ) → HasFree self.old ks → HasFree self.new ks)
-            × (self.new.held ≡ self.old.held)
-            × PassesTimes count h after self.old self.new) }
-        ensures missed { MissesSame self.old self.new }
-    {
-        let Some(mut reader) = take(&mut self.handles, k, 0) else {
-            return HANDLE;
-        };
-        self.go_past_items(&mut reader, count);
-        self.handles[k] = Slot::Open(reader);
-        OK
-    }
-
-    /// Goes on past so many items of this handle, which has left its place, or past all that wait.
-    fn go_past_items(&mut self, handle: &mut Handle, count: usize)
-        ensures passes { PassesTimes count handle.old handle.new self.old self.new }
-        ensures handles { self.new.handles ≡ self.old.handles }
-        ensures freed { self.new.freed ≡ self.old.freed }
-        ensures held { self.new.held ≡ self.old.held }
-        ensures missed { MissesSame self.old self.new }
-    {
-        for done in 0..count {
-            if self.is_past(handle) {
-                return;
-            }
-            self.go_past(handle);
-        }
-    }
-
-    /// Whether nothing comes next for this handle, so that a step past it changes nothing.
-    fn is_past(&self, handle: &Handle) -> bool
-        ensures { IsTrue result → PassesHandle handle.now handle.now self.now self.now }
-    {
-        is_rest(&self.router.lend_next(handle))
-    }
-
-    /// Goes on to the next item of this handle, which has left its place.
-    fn go_past(&mut self, handle: &mut Handle)
-        ensures passes { PassesHandle handle.old handle.new self.old self.new }
-        ensures handles { self.new.handles ≡ self.old.handles }
-        ensures freed { self.new.freed ≡ self.old.freed }
-        ensures held { self.new.held ≡ self.old.held }
-        ensures missed { MissesSame self.old self.new }
-    {
-        self.router.pass(handle);
     }
 
     /// Copies the bytes of the held message.
