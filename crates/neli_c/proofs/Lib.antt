@@ -5,6 +5,7 @@ pub mod Frames
 pub mod FreePlaces
 pub mod Hears
 pub mod Lends
+pub mod LentCodes
 pub mod Listens
 pub mod Opened
 pub mod OutOfPlace

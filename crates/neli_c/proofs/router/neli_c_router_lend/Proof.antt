@@ -1,39 +1,31 @@
 -- `neli_c_router_lend` passes both references on, and returns the code.
-use mathlib.Core.Path.{refl, ap, ◌∙◌}
-use mathlib.Core.List.{List, [], ◌∷◌, ◌++◌}
-use base.Fml.{flft, ftrue}
-use base.Logic.{SProp, id⊢}
-use lib.Signed.{mag}
-use mir.Syntax.{Fn, named, w32, w64}
-use mir.Val.{Val, vptr, vint, vstruct, of_list, of_z, hbits}
-use mir.ValLaws.{of_z_fits}
+use mathlib.Core.Path.{refl}
+use mathlib.Core.List.{List, [], ◌∷◌}
+use base.Logic.{SProp}
+use mir.Syntax.{Fn, named, w64}
+use mir.Val.{Val, vptr, vint}
 use contract.Running.{tables}
-use types.Kit.{‵, raw, ◌⊛◌, some, later, ◌$◌, ◌∵◌, !, qed, by, move, keep, use1, drop, split, pick, await}
-use types.Kit.{fsplit, fjoin, fpick, feq_i, feq_l, flt_i, flt_l}
+use types.Kit.{raw, ◌$◌, ◌∵◌, !, qed, by}
 use types.Part.{whole, sub}
 use types.Run.{stop, fld, of_opd, addr, no_more, and_then, returns, enter}
 use types.ByLocal.{alloc_all, pass_all, free_all, look_at, get, get_in, through, sets, lands_as}
-use denote.Builtin.{usize}
-use denote.Exit.{yes, no}
 use denote.Plain.{uint_vals, uint_Tells}
-use denote.RattleType.{RattleType}
 use denote.Ref.{mut_vals, mut_Tells}
-use denote.Signature.{Slot, plain, mut_ref_to, named_lft}
-use denote.Steps.{only}
+use denote.Signature.{Slot, plain, named_lft}
 use denote.Triple.Call.{calls_at}
 use denote.Triple.Clauses.{Lasts, at_exit, lasts}
+use denote.Triple.Entry.{alive}
 use denote.Triple.Spec.{triple_of}
 use denote.Triple.Statement.{Contract}
-use denote.Triple.Walked.{Stays, stay_dropped, gave_ref, walk_of, Goes-dropped, Goes-spent_ref, Goes-gave_ref}
-use Rattle.std.specs.Prelude.{◌^◌}
+use denote.Triple.Walked.{Stays, walk_of}
 use Rattle.std.proofs.raw_atomic.Walks.{proved, leaves}
 use Rattle.core.proofs.atomic.Steps.{fm}
 use Rattle.neli_c.specs.contracts.opaque.NeliRouter as Router
 use Rattle.neli_c.specs.contracts.lending.NeliLent as Lent
-use Rattle.neli_c.specs.contracts.router.Lending as Lending
 use Rattle.neli_c.specs.contracts.router.lend as callee
 use Rattle.neli_c.specs.contracts.router.neli_c_router_lend as own
 use Rattle.neli_c.specs.contracts.router.neli_c_router_lend.Key.{name}
+use Rattle.neli_c.proofs.LentCodes.{all-go, all_passed_on, code_of, code_word}
 use Rattle.neli_c.proofs.router.lend.Met.{met}
 use Rattle.neli_c.proofs.router.neli_c_router_lend.Statement.{statement}
 use Rattle.neli_c.proofs.router.neli_c_router_lend.Code as code
@@ -45,22 +37,14 @@ abbrev OfLent : Slot 2
 OfLent = plain (λ κs. Lent.the_row (named_lft 2 0 tt κs))
 
 abbrev stays : Stays own.ended.signature.params own.ended.kept
-stays = (
-  stay_dropped (mut_ref_to (0 ∷ []) tt OfRouter) no,
-  (stay_dropped (plain (λ _. usize)) yes, (gave_ref (1 ∷ []) tt OfLent, tt)),
-)
+stays = all_passed_on own.ended.signature.params own.ended.kept
 
 pub neli_c_router_lend_spec : {M : Type 1} → statement M
 neli_c_router_lend_spec 𝓤 𝓛 𝓜 𝓡 wired =
     let 𝓣 = tables 𝓤 𝓛.H 𝓜 𝓡 𝓡.env in let fn : Fn = code.function in
     let c = own.clauses 𝓛 𝓜.mem 𝓡.returns in let d = callee.clauses 𝓛 𝓜.mem 𝓡.returns in
-    proved 𝓛 own.ended stays c 𝓜 𝓡 (
-      Goes-spent_ref 𝓛 2 (0 ∷ []) tt OfRouter,
-      (
-        Goes-dropped 𝓛 2 (plain (λ _. usize)) yes (λ κs x f. refl),
-        (Goes-gave_ref 𝓛 2 1 tt OfLent, tt),
-      ),
-    ) name fn (code.unfolded 𝓤 𝓛.H 𝓜 𝓡 wired)
+    proved 𝓛 own.ended stays c 𝓜 𝓡 (all-go 𝓛 2 own.ended.signature.params own.ended.kept) name fn
+    (code.unfolded 𝓤 𝓛.H 𝓜 𝓡 wired)
     (λ κs. (mut_vals, (uint_vals w64, (mut_vals, tt))))
     (λ κs. (
       mut_Tells (named 0) κs.0 (OfRouter.row κs),
@@ -76,8 +60,6 @@ neli_c_router_lend_spec 𝓤 𝓛 𝓜 𝓡 wired =
     let Post : Val → SProp 𝓤 = (walk_of 𝓛 own.ended stays c).post z in
     let k : Contract 𝓤 = triple_of 𝓛 callee.signature (callee.spec 𝓛 𝓜.mem 𝓡.returns) in
     let y : k.Ghost = ((κs, qs, bounds, a, words), tt) in
-    let R : RattleType = Lending.the_row (named_lft 2 0 tt κs) in
-    let tokens = ‵ (flft κs.0 qs.0) ⊛ ‵ (flft κs.1.0 qs.1.0) ⊛ ‵ ftrue in
     qed 𝓛 (raw (k.pre y) ∷ []) ∵
     enter ! 𝓣.C 𝓣.Λ fn (vptr a.0.ref_ptr.0 a.0.ref_ptr.1 ∷ vint w64 a.1.0
     ∷ vptr a.1.1.0.ref_ptr.0 a.1.1.0.ref_ptr.1 ∷ []) Post $
@@ -86,17 +68,10 @@ neli_c_router_lend_spec 𝓤 𝓛 𝓜 𝓡 wired =
     sets ! (addr ! (through ! refl (stop !))) refl (tt, tt) $
     calls_at ! (fm 𝓛 𝓜 𝓡) k (met 𝓤 𝓛 𝓜 𝓡 (code.calls-neli_c::router::lend 𝓡.env wired)) y
     (and_then ! (get ! refl) (and_then ! (get ! refl) (and_then ! (get ! refl) (no_more !)))) (λ u.
-    use1 𝓛 (later (some (λ (r : R.Denot). (tokens ⊛ ‵ (R.own_val r (u ∷ []))) ⊛ some
-    (λ (ls : Lasts callee.ended κs a). ‵ (lasts callee.ended κs a ls)
-    ⊛ raw ((d κs a).ensures tt r (at_exit callee.ended κs a ls)))))) (id⊢ 𝓤 (k.post y u)) $
-    await ! tt $ pick ! (λ r. split ! $ move ! (1 ∷ []) $ pick ! (λ ls. split ! $
-    move ! (2 ∷ []) $ split ! $ move ! (1 ∷ []) $
-    fpick ! (λ vss. fsplit ! $ feq_l ! (λ eu. fsplit ! $ fsplit ! $ feq_l ! (λ ec. flt_l ! (λ fits. fsplit ! $ fsplit ! $
-    fsplit ! $ feq_l ! (λ eb. fsplit ! $ flt_l ! (λ count. drop ! $ drop ! $ drop ! $
-    let code : Val = vint w32 (of_z w32 r.code) in let good = of_z_fits w32 r.code (record { sfits = fits }) in
-    lands_as ! (ap only (eu ∙ (λ j. vstruct (of_list (ec j ++ (eb j ++ []))) ∷ []))) refl
-    (tt, (good, ((tt, (record { fits = count }, tt)), tt))) $
-    sets ! (of_opd ! (get_in ! (fld ! refl (stop !)) (sub ! 0 refl (whole !)))) refl (tt, good) $
-    returns ! (look_at ! 0 refl) $ free_all ! refl $ flt_i ! (mag r.code) (2 ^ hbits w32) fits $
-    feq_i ! (List Val) (code ∷ []) (code ∷ []) refl $ fjoin ! $ keep ! (1 ∷ 2 ∷ 0 ∷ 3 ∷ []) $
-    by ! (leaves 𝓛 own.ended stays c z code r.code ls (tt, (tt, (tt, tt)))))))))))))))
+    let m = named_lft 2 0 tt κs in
+    code_of ! m (alive 𝓛 callee.signature κs qs) (Lasts callee.ended κs a) (lasts callee.ended κs a)
+    (λ r ls. (d κs a).ensures tt r (at_exit callee.ended κs a ls)) (λ r ls good.
+    lands_as ! refl refl (tt, good) $
+    sets ! (of_opd ! (get_in ! (fld ! refl (stop !)) (sub ! 0 refl (whole !)))) refl (tt, good.0) $
+    returns ! (look_at ! 0 refl) $ free_all ! refl $
+    by ! (leaves 𝓛 own.ended stays c z (code_word m r) r.code ls (tt, (tt, (tt, tt))))))))
