@@ -18,7 +18,8 @@ use Rattle.neli_deliveries.specs.Readings.{Item}
 use Rattle.neli_log.specs.Lending.{Lends}
 use Rattle.neli_log.specs.Log.{pending_of}
 use Rattle.neli_log.specs.declared.log.Log.{Log}
-use Rattle.neli_router.specs.Ahead.{item_at, passed}
+use Rattle.neli_router.specs.Ahead.{Coming, LendsNext, Stop, after_next, at_end, at_wait, before, coming_of, item_at, lent_at}
+use Rattle.neli_router.specs.Ahead.{none_coming, not_open, passed}
 use Rattle.neli_router.specs.Lending.{IsErrorOf, IsLentItem, IsLentReply, LentItem}
 use Rattle.neli_router.specs.declared.handle.HandleState.{HandleState}
 use Rattle.neli_router.specs.declared.lending.LentError.{LentError}
@@ -28,8 +29,8 @@ use Rattle.neli_router.specs.declared.lending.LentReply.TheVariants as reply
 use Rattle.neli_router.specs.declared.router.NlRouter.{NlRouter}
 use Rattle.neli_c.specs.declared.lending.NeliLent.{NeliLent}
 use Rattle.neli_c.specs.declared.session.Session.{Session}
-use Rattle.neli_c.specs.Ahead.{AreLent, IsLentAs, LendsFirst, Message, PassesTimes, message_in, messages_ahead}
-use Rattle.neli_c.specs.Ahead.{is_rest, messages_at, messages_for, messages_from, messages_of}
+use Rattle.neli_c.specs.Ahead.{AreLent, IsLentAs, LendsFirst, Message, PassesTimes, leading_messages, message_in}
+use Rattle.neli_c.specs.Ahead.{is_rest, messages_at, messages_for, messages_from, messages_in, messages_of}
 use Rattle.neli_c.specs.Codes.{item, no_handle}
 use Rattle.neli_c.specs.Lending.{LendsHandle, LendsPlace, PassesHandle, Stores, lent_code}
 use Rattle.neli_c.specs.Sessions.{pending, socket_code}
@@ -67,58 +68,22 @@ next-from (reply.Item (Err e)) i later is = from-error e i later is
 next-from reply.End i later is = absurd is
 next-from reply.Waits i later is = absurd is
 
--- a handle that has ended is lent none
-none-after : (h : HandleState) (w : Option (List Delivery)) → h.ended ≡ true → messages_of h w ≡ []
-none-after h None is = refl
-none-after h (Some []) is = refl
-none-after h (Some (d ∷ ds)) is =
-    ap (λ (b : Bool). if b then [] else messages_from (item_at h d) (messages_ahead (passed h d) ds)) is
+-- where none follows there is no message
+none-at : (stop : Stop) → Next (lent_at stop) [] []
+none-at at_end = refl
+none-at at_wait = refl
+none-at not_open = refl
 
--- an open one is lent the first, and then those after it
-one-before : (h : HandleState) (d : Delivery) (ds : List Delivery) → h.ended ≡ false
-    → messages_of h (Some (d ∷ ds)) ≡ messages_from (item_at h d) (messages_ahead (passed h d) ds)
-one-before h d ds is =
-    ap (λ (b : Bool). if b then [] else messages_from (item_at h d) (messages_ahead (passed h d) ds)) is
+next-by : (items : List (Item ℕ (List ℕ))) (stop : Stop) (r : LentReply)
+    → LendsNext (record { items = items; stop = stop }) r
+    → Next r (leading_messages items) (leading_messages (drop 1 items))
+next-by [] stop r lends = subst (λ (x : LentReply). Next x [] []) (sym lends) (none-at stop)
+next-by (i ∷ later) stop r lends = next-from r i (leading_messages later) lends
 
--- of a read ahead, h and w before it and g and v after it
-module _ (h g : HandleState) (v : Option (List Delivery)) (r : LentReply) where
-  abbrev Says : Option (List Delivery) → Type 0
-  Says w = Next r (messages_of h w) (messages_of g v)
-
-  next-open : (w : Option (List Delivery)) → h.ended ≡ false
-      → (w ≡ None → r ≡ reply.Item (Err error.ClosedChannel)) → (w ≡ Some [] → r ≡ reply.Waits)
-      → ((d : Delivery) (ds : List Delivery) → w ≡ Some (d ∷ ds)
-      → IsLentReply (item_at h d) r × (v ≡ Some ds) × (g ≡ passed h d))
-      → Says w
-  next-open None is closed waits lends =
-      subst (λ (x : LentReply). Next x [] (messages_of g v)) (sym (closed refl)) refl
-  next-open (Some []) is closed waits lends =
-      subst (λ (x : LentReply). Next x [] (messages_of g v)) (sym (waits refl)) refl
-  next-open (Some (d ∷ ds)) is closed waits lends =
-      let l = lends d ds refl in
-      let later : messages_of g v ≡ messages_ahead (passed h d) ds =
-      ap (messages_of g) l.1 ∙ ap (λ (x : HandleState). messages_ahead x ds) l.2 in
-      subst (λ (us : List Message). Next r us (messages_of g v)) (sym (one-before h d ds is))
-      (subst (λ (us : List Message). Next r (messages_from (item_at h d) (messages_ahead (passed h d) ds)) us) (sym later)
-      (next-from r (item_at h d) (messages_ahead (passed h d) ds) l.0))
-
-  next-by : (b : Bool) (w : Option (List Delivery)) → h.ended ≡ b → (h.ended ≡ true → r ≡ reply.End)
-      → (h.ended ≡ false → w ≡ None → r ≡ reply.Item (Err error.ClosedChannel))
-      → (h.ended ≡ false → w ≡ Some [] → r ≡ reply.Waits)
-      → (h.ended ≡ false → (d : Delivery) (ds : List Delivery) → w ≡ Some (d ∷ ds)
-      → IsLentReply (item_at h d) r × (v ≡ Some ds) × (g ≡ passed h d))
-      → Says w
-  next-by true w is ended closed waits lends =
-      subst (λ (x : LentReply). Next x (messages_of h w) (messages_of g v)) (sym (ended is)) (none-after h w is)
-  next-by false w is ended closed waits lends = next-open w is (closed is) (waits is) (lends is)
-
-  pub next : (w : Option (List Delivery)) → (h.ended ≡ true → r ≡ reply.End)
-      → (h.ended ≡ false → w ≡ None → r ≡ reply.Item (Err error.ClosedChannel))
-      → (h.ended ≡ false → w ≡ Some [] → r ≡ reply.Waits)
-      → (h.ended ≡ false → (d : Delivery) (ds : List Delivery) → w ≡ Some (d ∷ ds)
-      → IsLentReply (item_at h d) r × (v ≡ Some ds) × (g ≡ passed h d))
-      → Says w
-  next w = next-by h.ended w refl
+-- of a read ahead, a before it and b after it
+pub next : (a b : Coming) (r : LentReply) → LendsNext a r → b ≡ after_next a → Next r (messages_in a) (messages_in b)
+next a b r lends rest =
+    subst (λ (x : Coming). Next r (messages_in a) (messages_in x)) (sym rest) (next-by a.items a.stop r lends)
 
 -- its message, if it is one
 pub message-next : (r : LentReply) (us vs : List Message) → Next r us vs
@@ -168,6 +133,19 @@ lent-more us vs xs n u x below is are lent =
 
 -- ---- where none comes next, the single lend gives no message
 
+-- a handle that has ended is lent none
+none-after : (h : HandleState) (w : Option (List Delivery)) → h.ended ≡ true → messages_of h w ≡ []
+none-after h None is = refl
+none-after h (Some []) is = refl
+none-after h (Some (d ∷ ds)) is =
+    ap (λ (b : Bool). messages_in (if b then none_coming at_end else before (item_at h d) (coming_of (passed h d) ds))) is
+
+-- an open one is lent the first, and then those after it
+one-before : (h : HandleState) (d : Delivery) (ds : List Delivery) → h.ended ≡ false
+    → messages_of h (Some (d ∷ ds)) ≡ messages_from (item_at h d) (messages_of (passed h d) (Some ds))
+one-before h d ds is =
+    ap (λ (b : Bool). messages_in (if b then none_coming at_end else before (item_at h d) (coming_of (passed h d) ds))) is
+
 none-left : (n : ℕ) (us : List Message) → AreLent (take (suc n) us) [] → us ≡ []
 none-left n [] are = refl
 none-left n (u ∷ us) are = absurd are
@@ -206,7 +184,7 @@ module _ (code : ℤ) (s : Session) (old new : NeliLent) where
   not-open h (Some []) is open_ none lends = λ e. absurd (let f = sym (lends.2 open_ is).0 ∙ e in cc)
   not-open h (Some (d ∷ ds)) is open_ none lends =
       let l = lends.3 open_ d ds is in
-      no-message code (item_at h d) (messages_ahead (passed h d) ds) l.0 (sym (one-before h d ds open_) ∙ none) l.1 l.2
+      no-message code (item_at h d) (messages_of (passed h d) (Some ds)) l.0 (sym (one-before h d ds open_) ∙ none) l.1 l.2
 
   not-by : (b : Bool) (h : HandleState) → h.ended ≡ b → messages_of h (pending s h.number) ≡ []
       → LendsHandle code h s old new → code ≢ item
@@ -347,7 +325,7 @@ module _ (h : HandleState) (s t : Session) (u : Message) (us : List Message) whe
   pass-open g (Some []) is open_ some passes = absurd (let f = some in cc)
   pass-open g (Some (d ∷ ds)) is open_ some passes =
       let p = passes.3 open_ d ds is in
-      let first = first-ahead (item_at h d) (messages_ahead (passed h d) ds) us u (sym (one-before h d ds open_) ∙ some) in
+      let first = first-ahead (item_at h d) (messages_of (passed h d) (Some ds)) us u (sym (one-before h d ds open_) ∙ some) in
       let number : g.number ≡ h.number = ap (λ (x : HandleState). x.number) p.1 in
       ap (λ (x : HandleState). messages_of x (pending t g.number)) p.1
       ∙ ap (messages_of (passed h d)) (ap (pending t) number ∙ p.0) ∙ first.1
@@ -374,7 +352,7 @@ module _ (code : ℤ) (h : HandleState) (s : Session) (old new : NeliLent) (u : 
   lent-open (Some []) is open_ some lends = absurd (let f = some in cc)
   lent-open (Some (d ∷ ds)) is open_ some lends =
       let l = lends.3 open_ d ds is in
-      lent-as code (item_at h d) l.0 (messages_ahead (passed h d) ds) us u old new
+      lent-as code (item_at h d) l.0 (messages_of (passed h d) (Some ds)) us u old new
       (sym (one-before h d ds open_) ∙ some) l.1 l.2 l.3
 
   lent-by : (b : Bool) → h.ended ≡ b → messages_of h (pending s h.number) ≡ u ∷ us → LendsHandle code h s old new

@@ -1,6 +1,6 @@
 -- Several items of a handle at once: the messages that single lends give, each once those before it are passed; and so
 -- many steps past them.
-use Rattle.std.specs.Prelude.{◌≡◌, ◌≢◌, ◌≤◌, ⊤, ℕ, zero, suc, ℤ, pos, if◌then◌else◌, Bool, true, false, List, [], ◌∷◌, length, take}
+use Rattle.std.specs.Prelude.{◌≡◌, ◌≢◌, ◌≤◌, ⊤, ℕ, zero, suc, ℤ, pos, Bool, true, false, List, [], ◌∷◌, length, take}
 use Rattle.std.specs.Prelude.{drop, Option, Some, None, Ok, Err, IfSome, slice_set}
 use Rattle.neli_reader.specs.Framed.{Nlmsghdr}
 use Rattle.neli_lent.specs.Messages.{message_said}
@@ -8,8 +8,7 @@ use Rattle.neli_lent.specs.declared.message.LentMessage.{LentMessage}
 use Rattle.neli_deliveries.specs.declared.delivery.Delivery.{Delivery}
 use Rattle.neli_deliveries.specs.Readings.{Item}
 use Rattle.neli_log.specs.Lending.{Lends}
-use Rattle.neli_router.specs.Ahead.{item_at, passed}
-use Rattle.neli_router.specs.declared.ahead.ItemsAhead.{ItemsAhead}
+use Rattle.neli_router.specs.Ahead.{Coming, coming_for}
 use Rattle.neli_router.specs.declared.handle.HandleState.{HandleState}
 use Rattle.neli_router.specs.declared.lending.LentReply.{LentReply}
 use Rattle.neli_router.specs.declared.lending.LentReply.TheVariants as reply
@@ -31,16 +30,18 @@ abbrev pub messages_from : Item ℕ (List ℕ) → List Message → List Message
 messages_from (Ok u) later = u ∷ later
 messages_from (Err e) later = []
 
--- the messages that a handle is lent of these deliveries, each once those before it are passed: up to its end, or to an
--- error in the place of one
-abbrev pub messages_ahead : HandleState → List Delivery → List Message
-messages_ahead h [] = []
-messages_ahead h (d ∷ ds) = if h.ended then [] else messages_from (item_at h d) (messages_ahead (passed h d) ds)
+-- the messages among items that come one after the other, up to an error in the place of one
+abbrev pub leading_messages : List (Item ℕ (List ℕ)) → List Message
+leading_messages [] = []
+leading_messages (i ∷ later) = messages_from i (leading_messages later)
 
--- of what waits for it; none if it is not open
+-- of what neli_router lends ahead
+abbrev pub messages_in : Coming → List Message
+messages_in a = leading_messages a.items
+
+-- of what a handle is lent, by what waits for it; none if it is not open
 abbrev pub messages_of : HandleState → Option (List Delivery) → List Message
-messages_of h None = []
-messages_of h (Some ds) = messages_ahead h ds
+messages_of h waiting = messages_in (coming_for h waiting)
 
 -- of the handle at a place
 abbrev pub messages_for : Session → Option HandleState → List Message
@@ -49,10 +50,6 @@ messages_for s (Some h) = messages_of h (pending s h.number)
 
 abbrev pub messages_at : ℕ → Session → List Message
 messages_at k s = messages_for s (handle_at k s.handles.items)
-
--- of what neli_router lends ahead
-abbrev pub messages_in : ItemsAhead → List Message
-messages_in a = messages_of a.state a.waiting
 
 -- nothing comes next: the handle has ended, or nothing has arrived yet
 abbrev pub is_rest : LentReply → Bool

@@ -1,23 +1,31 @@
 //! The items that wait for a handle, lent one after the other; the router stays as it is.
 
-ghost use Rattle.std.specs.Prelude.{true, false, ◌≡◌, ◌∷◌, [], List, None, Some, Err};
-ghost use Rattle.neli_deliveries.specs.declared.delivery.Delivery.{Delivery as Waiting};
+ghost use Rattle.std.specs.Prelude.{◌≡◌};
 ghost use Rattle.neli_log.specs.Log.{pending_of};
-ghost use Rattle.neli_router.specs.Ahead.{item_at, passed};
-ghost use Rattle.neli_router.specs.Lending.{IsLentReply};
-ghost use Rattle.neli_router.specs.declared.lending.LentError.TheVariants as error;
-ghost use Rattle.neli_router.specs.declared.lending.LentReply.TheVariants as reply;
+ghost use Rattle.neli_router.specs.Ahead.{LendsNext, after_next, coming_for};
 
 use crate::lending::{LentError, LentReply, item_of, state_after, step_past};
 use crate::{HandleState, NlRouter, NlRouterReceiverHandle};
 use neli_log::{Ahead, Log};
+use std::marker::Model;
 
-/// A handle's items, lent one after the other: what waits for it, if it is open, and the handle as it is once those that
-/// were lent are passed.
+/// A handle's items, lent one after the other.
+///
+/// Contracts see it as those that it has not lent yet, and what follows them.
 #[derive(Drop)]
 pub struct ItemsAhead<'r> {
+    /// What waits for the handle, if it is open.
     waiting: Option<Ahead<'r>>,
+    /// The handle as it is once those that were lent are passed.
     state: HandleState,
+}
+
+impl<'r> Model for ItemsAhead<'r> {
+    ghost use Rattle.neli_router.specs.Ahead.{Coming, coming_for};
+
+    ghost Value = { Coming };
+
+    ghost view = { λ a. coming_for a.state a.waiting };
 }
 
 impl<'r> ItemsAhead<'r> {
@@ -40,16 +48,8 @@ impl<'r> ItemsAhead<'r> {
     /// It is the item that [`lend_next`](NlRouter::lend_next) lends once those before it are
     /// [passed](NlRouter::pass). A handle that is not open gives `ClosedChannel`.
     pub fn lend_next(&mut self) -> LentReply<'r>
-        ensures ended { self.old.state.ended ≡ true
-            → (result ≡ reply.End) × (self.new ≡ self.old) }
-        ensures closed { self.old.state.ended ≡ false → self.old.waiting ≡ None
-            → (result ≡ reply.Item (Err error.ClosedChannel)) × (self.new ≡ self.old) }
-        ensures waits { self.old.state.ended ≡ false → self.old.waiting ≡ Some []
-            → (result ≡ reply.Waits) × (self.new ≡ self.old) }
-        ensures lends { self.old.state.ended ≡ false → (d : Waiting) (ds : List Waiting)
-            → self.old.waiting ≡ Some (d ∷ ds)
-            → IsLentReply (item_at self.old.state d) result
-            × (self.new.waiting ≡ Some ds) × (self.new.state ≡ passed self.old.state d) }
+        ensures lends { LendsNext self.old result }
+        ensures rest { self.new ≡ after_next self.old }
     {
         let state = self.state;
         if state.ended {
@@ -77,8 +77,8 @@ impl NlRouter<Log> {
     /// }
     /// ```
     pub fn lend_items<RT, RP>(&self, handle: &NlRouterReceiverHandle<RT, RP>) -> ItemsAhead<'_>
-        ensures waiting { result.waiting ≡ pending_of self.now.deliveries handle.now.number }
-        ensures state { result.state ≡ handle.now }
+        ensures coming { result
+            ≡ coming_for handle.now (pending_of self.now.deliveries handle.now.number) }
     {
         let state = handle.state();
         ItemsAhead {

@@ -12,8 +12,7 @@ returns-clause-some c =
     let b = c.lend_next.new.self in
     let r = c.lend_next.ensures in
     let come : Next c.lend_next.result (messages_in a) (messages_in b) =
-    next a.state b.state b.waiting c.lend_next.result a.waiting (λ e. (r.ended e).0) (λ e w. (r.closed e w).0)
-    (λ e w. (r.waits e w).0) r.lends in
+    next a b c.lend_next.result r.lends r.rest in
     subst (λ (o : Option (LentMessage ℕ)). IfSome o (λ m. (u : Message) × Lends (message_said m) u
     × (messages_in a ≡ u ∷ messages_in b))) (sym c.message_in.ensures)
     (message-next c.lend_next.result (messages_in a) (messages_in b) come)
@@ -24,7 +23,6 @@ returns-clause-none c = λ none.
     let b = c.lend_next.new.self in
     let r = c.lend_next.ensures in
     let come : Next c.lend_next.result (messages_in a) (messages_in b) =
-    next a.state b.state b.waiting c.lend_next.result a.waiting (λ e. (r.ended e).0) (λ e w. (r.closed e w).0)
-    (λ e w. (r.waits e w).0) r.lends in
+    next a b c.lend_next.result r.lends r.rest in
     none-next c.lend_next.result (messages_in a) (messages_in b) come
     (subst (λ (o : Option (LentMessage ℕ)). IsNone o) c.message_in.ensures none)
