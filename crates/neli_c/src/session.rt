@@ -1,6 +1,6 @@
 //! A router with its handles, and the item that was read last.
 
-ghost use Rattle.std.specs.Prelude.{◌≡◌, ◌≢◌, ◌<◌, ℕ, IfOk, IfSome, IsNone, IsSome, List, ◌∷◌, Some};
+ghost use Rattle.std.specs.Prelude.{◌≡◌, ◌≢◌, ◌<◌, ℕ, IfSome, IsNone, IsSome, List, ◌∷◌, Some};
 ghost use Rattle.std.specs.Prelude.{None, length};
 ghost use Rattle.std.specs.Prelude.{option_map, slice_get, slice_set};
 ghost use Rattle.std.specs.Prelude.{vec_capacity, vec_len};
