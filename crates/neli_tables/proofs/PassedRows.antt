@@ -1,5 +1,5 @@
 -- Elements that were passed, and those to come.
-use Rattle.std.proofs.Common.{get_or, ◌<◌, ◌≡◌, ◌∙◌, ℕ, zero, suc, ◌+◌, Bool, not, List, [], ◌∷◌, length, drop}
+use Rattle.std.proofs.Common.{get_or, ◌<◌, ◌≤◌, ◌≡◌, ◌∙◌, ℕ, zero, suc, ◌+◌, Bool, not, List, [], ◌∷◌, length, drop}
 use Rattle.std.proofs.Common.{take, map, Option}
 use Rattle.std.proofs.Common.{Some, None}
 use Rattle.std.proofs.Common.{cond, nat_lt, refl, sym, ap, arith, length-drop, ◌-◌}
@@ -11,12 +11,10 @@ use Rattle.neli_tables.specs.declared.line.Line.{Line}
 use Rattle.neli_tables.specs.declared.setting.Setting.{Setting}
 use Rattle.neli_tables.specs.Lines.{LineSeen, line_seen}
 use Rattle.neli_tables.specs.Settings.{setting_seen}
-use Rattle.neli_tables.specs.Options.{first_word, options_of, word_in}
-use Rattle.neli_tables.specs.Plain.{name_seen, plain_name}
-use Rattle.neli_tables.specs.declared.options.Options.{Options}
+use Rattle.neli_tables.specs.Options.{first_word, word_in}
 use Rattle.neli_tables.specs.declared.tables.MessagePlace.{MessagePlace}
 use Rattle.neli_tables.specs.Families.{Lines, message_at, message_from, message_of}
-use Rattle.neli_tables.specs.FoundRows.{before, begins_section, is_case, rows_among, rows_of}
+use Rattle.neli_tables.specs.FoundRows.{before, begins_section, is_case, rows_among, rows_of, sizes_of}
 
 abbrev Lent : Type 0
 Lent = Setting (Bor (List ℕ))
@@ -117,30 +115,79 @@ before_own : {A : Type 0} (index : Option ℕ) (xs : List A) → take (length (b
 before_own (Some i) xs = take_own i xs
 before_own None xs = take_all (length xs) xs (omega arith)
 
--- what is kept of the lines that stand where the rows of a section do
-rows_kept : {A : Type 0} (f : LineSeen → A) (kept : List A) (lines : List LineSeen) (rows : List Line) (section : ℕ)
-    → kept ≡ map f lines → map line_seen rows ≡ rows_of section lines
-    → take (section + 1 + length rows - (section + 1)) (drop (section + 1) kept) ≡ map f (rows_of section lines)
-rows_kept f kept lines rows section are is =
+-- how many rows follow the line at a place
+pub sizes_get : (lines : List LineSeen) (section d : ℕ) → section < length lines
+    → get_or (sizes_of lines) section d ≡ length (rows_of section lines)
+sizes_get [] section d h = absurd (omega (arith, h))
+sizes_get (line ∷ lines) zero d h = refl
+sizes_get (line ∷ lines) (suc section) d h =
+    let next : suc (section + 1) ≡ suc section + 1 = omega arith in
+    sizes_get lines section d (omega (arith, h)) ∙ ap (λ n. length (rows_among (drop n (line ∷ lines)))) next
+
+-- as many as there are lines
+pub length-sizes : (lines : List LineSeen) → length (sizes_of lines) ≡ length lines
+length-sizes [] = refl
+length-sizes (line ∷ lines) = ap suc (length-sizes lines)
+
+-- the size of a section, at its place
+pub size_here : (lines : List LineSeen) (sizes : List ℕ) (section n : ℕ) → sizes ≡ sizes_of lines
+    → section < length sizes → n ≡ get_or sizes section n → n ≡ length (rows_of section lines)
+size_here lines sizes section n are within is =
+    is ∙ ap (λ ns. get_or ns section n) are
+    ∙ sizes_get lines section n (omega (arith, within, ap length are, length-sizes lines))
+
+take_few : {A : Type 0} (i : ℕ) (xs : List A) → length (take i xs) ≤ length xs
+take_few zero xs = omega arith
+take_few (suc i) [] = omega arith
+take_few (suc i) (x ∷ xs) = (let few = take_few i xs in omega (arith, few))
+
+before_within : {A : Type 0} (index : Option ℕ) (xs : List A) → length (before index xs) ≤ length xs
+before_within (Some i) xs = take_few i xs
+before_within None xs = omega arith
+
+-- the rows of a section are lines
+pub size_within : (lines : List LineSeen) (section : ℕ) → 0 < length (rows_of section lines)
+    → section + 1 + length (rows_of section lines) ≤ length lines
+size_within lines section some =
     let all = drop (section + 1) lines in
-    let many : section + 1 + length rows - (section + 1) ≡ length (rows_among all) =
-    omega (arith, length-map rows line_seen, ap length is) in
+    let few : length (rows_of section lines) ≤ length all = before_within (position begins_section all) all in
+    omega (arith, some, few, length-drop (section + 1) lines)
+
+-- a place past the lines has no rows
+pub size_past : (lines : List LineSeen) (sizes : List ℕ) (section : ℕ) → sizes ≡ sizes_of lines
+    → length sizes ≤ section → 0 ≡ length (rows_of section lines)
+size_past lines sizes section are past =
+    let all = drop (section + 1) lines in
+    let few : length (rows_of section lines) ≤ length all = before_within (position begins_section all) all in
+    omega (arith, few, past, ap length are, length-sizes lines, length-drop (section + 1) lines)
+
+-- what is kept of the lines that stand where the rows of a section do
+pub rows_kept : {A : Type 0} (f : LineSeen → A) (kept : List A) (lines : List LineSeen) (size section : ℕ)
+    → kept ≡ map f lines → size ≡ length (rows_of section lines)
+    → take (section + 1 + size - (section + 1)) (drop (section + 1) kept) ≡ map f (rows_of section lines)
+rows_kept f kept lines size section are is =
+    let all = drop (section + 1) lines in
+    let many : section + 1 + size - (section + 1) ≡ length (rows_among all) = omega (arith, is) in
     rw (are, many, drop-map f (section + 1) lines, take-map f (length (rows_among all)) all)
     (ap (map f) (before_own (position begins_section all) all))
 
--- the options of the lines that stand where the rows of a section do
-pub rows_options : (options : List Options) (lines : List LineSeen) (rows : List Line) (section : ℕ)
-    → options ≡ map options_of lines → map line_seen rows ≡ rows_of section lines
-    → take (section + 1 + length rows - (section + 1)) (drop (section + 1) options) ≡ map options_of (rows_of section lines)
-rows_options options lines rows section are is = rows_kept options_of options lines rows section are is
+-- the rows themselves
+pub rows_seen : (lines : List Line) (size section : ℕ) → size ≡ length (rows_of section (map line_seen lines))
+    → map line_seen (take (section + 1 + size - (section + 1)) (drop (section + 1) lines))
+    ≡ rows_of section (map line_seen lines)
+rows_seen lines size section is =
+    let all = drop (section + 1) (map line_seen lines) in
+    let many : section + 1 + size - (section + 1) ≡ length (rows_among all) = omega (arith, is) in
+    sym (take-map line_seen (section + 1 + size - (section + 1)) (drop (section + 1) lines))
+    ∙ ap (take (section + 1 + size - (section + 1))) (sym (drop-map line_seen (section + 1) lines))
+    ∙ ap (λ n. take n all) many ∙ before_own (position begins_section all) all
 
--- and their names
-pub rows_names : (names : List (Option (Bor (List ℕ)))) (lines : List LineSeen) (rows : List Line) (section : ℕ)
-    → map name_seen names ≡ map plain_name lines → map line_seen rows ≡ rows_of section lines
-    → map name_seen (take (section + 1 + length rows - (section + 1)) (drop (section + 1) names))
-    ≡ map plain_name (rows_of section lines)
-rows_names names lines rows section are is =
-    let many = section + 1 + length rows - (section + 1) in
-    sym (take-map name_seen many (drop (section + 1) names))
-    ∙ ap (take many) (sym (drop-map name_seen (section + 1) names))
-    ∙ rows_kept plain_name (map name_seen names) lines rows section are is
+-- and what is kept of them in another form
+pub rows_viewed : {A B : Type 0} (view : A → B) (f : LineSeen → B) (kept : List A) (lines : List LineSeen)
+    (size section : ℕ) → map view kept ≡ map f lines → size ≡ length (rows_of section lines)
+    → map view (take (section + 1 + size - (section + 1)) (drop (section + 1) kept)) ≡ map f (rows_of section lines)
+rows_viewed view f kept lines size section are is =
+    let many = section + 1 + size - (section + 1) in
+    sym (take-map view many (drop (section + 1) kept))
+    ∙ ap (take many) (sym (drop-map view (section + 1) kept))
+    ∙ rows_kept f (map view kept) lines size section are is

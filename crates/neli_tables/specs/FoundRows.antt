@@ -1,5 +1,5 @@
 -- What is found among the lines of a table.
-use Rattle.std.specs.Prelude.{ℕ, ◌+◌, Bool, true, false, ◌&&◌, not, List, take, drop, position}
+use Rattle.std.specs.Prelude.{ℕ, ◌+◌, Bool, true, false, ◌&&◌, not, List, [], ◌∷◌, length, take, drop, position}
 use Rattle.std.specs.Prelude.{Option, Some, None, is_none}
 use Rattle.std.specs.Option.{option_map, option_or}
 use Rattle.std.specs.Str.{bytes_eq}
@@ -26,6 +26,11 @@ rows_among lines = before (position begins_section lines) lines
 -- the rows of the section at this place
 abbrev pub rows_of : ℕ → List LineSeen → List LineSeen
 rows_of section lines = rows_among (drop (section + 1) lines)
+
+-- how many rows follow each line
+abbrev pub sizes_of : List LineSeen → List ℕ
+sizes_of [] = []
+sizes_of (line ∷ lines) = length (rows_among lines) ∷ sizes_of lines
 
 -- the place of the first row that has this number in a section, or of that for all others
 abbrev pub row_in : List LineSeen → ℕ → ℕ → Option ℕ

@@ -16,3 +16,4 @@ pub mod RowKeys
 pub mod Options
 pub mod FoundRows
 pub mod Plain
+pub mod Columns

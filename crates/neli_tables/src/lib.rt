@@ -12,10 +12,12 @@
 #![tactic(auto)]
 
 mod bits;
+mod column;
 mod firsts;
 mod index;
 mod key;
 mod kind;
+mod likely;
 mod line;
 mod names;
 mod number;
@@ -33,6 +35,7 @@ mod why;
 mod word;
 
 pub use bits::{is_set, unnamed_bits};
+pub use column::Column;
 pub use key::Key;
 pub use kind::Kind;
 pub use line::Line;

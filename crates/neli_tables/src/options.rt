@@ -11,11 +11,20 @@ ghost use Rattle.neli_tables.specs.Options.{first_word, prefix_of, span_in, with
 use crate::{Key, Kind, Line, Said, Setting, Span, Value};
 use std::alloc::{AllocError, Global};
 
-/// What the options of a line say. A place is that of a line of the same table, counted from 0.
+/// What the options of a line say. A place is that of a line of the same table, counted from 0. What says how a value is
+/// printed stands together, for speed.
 #[derive(Clone, Copy, Debug, PartialEq, Eq)]
 pub struct Options {
     /// What the payload is; `None` where the line says no kind, as a message without a body.
     pub kind: Option<Kind>,
+    /// Whether there are as many values, one after the other, as the payload has room for.
+    pub array: bool,
+    /// Whether the value is printed as hexadecimal digits.
+    pub hex: bool,
+    /// The place of the enum that names the value.
+    pub values: Option<usize>,
+    /// The place of the flag set that names the value's bits.
+    pub flags: Option<usize>,
     /// The place of the set, the structure or the choice that the kind means.
     pub of: Option<usize>,
     /// The place of the structure before the attributes.
@@ -24,12 +33,6 @@ pub struct Options {
     pub by: Option<usize>,
     /// Whether the message's family picks the case.
     pub by_family: bool,
-    /// The place of the enum that names the value.
-    pub values: Option<usize>,
-    /// The place of the flag set that names the value's bits.
-    pub flags: Option<usize>,
-    /// Whether there are as many values, one after the other, as the payload has room for.
-    pub array: bool,
     /// Whether the attribute may stand several times.
     pub multi: bool,
     /// The least and the largest length in bytes.
@@ -38,8 +41,6 @@ pub struct Options {
     pub range: Option<Span>,
     /// The bits that may be set.
     pub mask: Option<u64>,
-    /// Whether the value is printed as hexadecimal digits.
-    pub hex: bool,
     /// Whether the message is one to the kernel.
     pub request: bool,
     /// Whether the message is one from the kernel.

@@ -25,7 +25,7 @@ pub fn are_plain(bytes: &[u8]) -> bool
 }
 
 /// The name of a line as text, where it needs no escape.
-fn plain_name<'t>(line: &Line<'t>) -> Option<&'t str>
+pub(crate) fn plain_name<'t>(line: &Line<'t>) -> Option<&'t str>
     ensures { name_seen result ≡ plain_name (line_seen line.now) }
 {
     if !are_plain(line.name) {

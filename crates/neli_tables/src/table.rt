@@ -9,13 +9,15 @@ ghost use Rattle.neli_tables.specs.Index.{AreFirsts, Indexes};
 ghost use Rattle.neli_tables.specs.RowKeys.{place_of, rest_key, way_number};
 ghost use Rattle.neli_tables.specs.Options.{options_of};
 ghost use Rattle.neli_tables.specs.Plain.{name_seen, plain_name};
+ghost use Rattle.neli_tables.specs.Columns.{column_of, column_seen};
 ghost use Rattle.neli_tables.specs.FoundRows.{begins_section, case_in, group_in, is_case, message_for};
 ghost use Rattle.neli_tables.specs.FoundRows.{message_in};
-ghost use Rattle.neli_tables.specs.FoundRows.{row_in, rows_among, rows_of};
+ghost use Rattle.neli_tables.specs.FoundRows.{row_in, rows_among, rows_of, sizes_of};
 
-use crate::bits::mask_of;
+use crate::column::{Column, all_columns};
 use crate::firsts::Firsts;
 use crate::index::Index;
+use crate::likely::Likely;
 use crate::options::{Options, all_options};
 use crate::plain::plain_names;
 use crate::way::{Way, group_key, is_row, message_key, rest_key, row_key, way_number};
@@ -31,6 +33,9 @@ pub struct Table<'t> {
     lines: Vec<Line<'t>>,
     options: Vec<Options>,
     names: Vec<Option<&'t str>>,
+    columns: Vec<Option<Column>>,
+    sizes: Vec<usize>,
+    likely: Likely,
     firsts: Firsts,
     index: Index,
 }
@@ -43,7 +48,10 @@ impl<'t> Model for Table<'t> {
     ghost invariant = { λ t. Indexes t.index (map line_seen t.lines.items)
         × AreFirsts t.firsts (map line_seen t.lines.items)
         × (t.options.items ≡ map options_of (map line_seen t.lines.items))
-        × (map name_seen t.names.items ≡ map plain_name (map line_seen t.lines.items)) };
+        × (map name_seen t.names.items ≡ map plain_name (map line_seen t.lines.items))
+        × (map (option_map column_seen) t.columns.items
+        ≡ map column_of (map line_seen t.lines.items))
+        × (t.sizes.items ≡ sizes_of (map line_seen t.lines.items)) };
 }
 
 impl<'t> Table<'t> {
@@ -68,10 +76,16 @@ impl<'t> Table<'t> {
         let firsts = Firsts::of(alloc, &lines, &index)?;
         let options = all_options(alloc, &lines)?;
         let names = plain_names(alloc, &lines)?;
+        let columns = all_columns(alloc, &lines)?;
+        let sizes = all_sizes(alloc, &lines)?;
+        let likely = Likely::of(alloc, &lines)?;
         Ok(Table {
             lines,
             options,
             names,
+            columns,
+            sizes,
+            likely,
             firsts,
             index,
         })
@@ -104,18 +118,34 @@ impl<'t> Table<'t> {
     pub fn rows(&self, section: usize) -> &[Line<'t>]
         ensures { map line_seen result.now ≡ rows_of section self.now }
     {
-        rows_of(&self.lines, section)
+        let size = self.size(section);
+        if size == 0 {
+            return &[];
+        }
+        &self.lines[section + 1..section + 1 + size]
+    }
+
+    /// The number of the rows of the section at this place; 0 where there is no such place.
+    fn size(&self, section: usize) -> usize
+        ensures size { result ≡ length (rows_of section self.now) }
+        ensures within { 0 < result → section + 1 + result ≤ length self.now }
+    {
+        if section < self.sizes.len() {
+            self.sizes[section]
+        } else {
+            0
+        }
     }
 
     /// What the options of the rows of the section at this place say, in order.
     pub fn row_options(&self, section: usize) -> &[Options]
         ensures { result.now ≡ map options_of (rows_of section self.now) }
     {
-        let rows = rows_of(&self.lines, section);
-        if rows.is_empty() {
+        let size = self.size(section);
+        if size == 0 {
             return &[];
         }
-        &self.options[section + 1..section + 1 + rows.len()]
+        &self.options[section + 1..section + 1 + size]
     }
 
     /// The name of the line at this place, where it is printed as it stands: each of its bytes is a printing character
@@ -133,11 +163,22 @@ impl<'t> Table<'t> {
     pub fn row_names(&self, section: usize) -> &[Option<&'t str>]
         ensures { map name_seen result.now ≡ map plain_name (rows_of section self.now) }
     {
-        let rows = rows_of(&self.lines, section);
-        if rows.is_empty() {
+        let size = self.size(section);
+        if size == 0 {
             return &[];
         }
-        &self.names[section + 1..section + 1 + rows.len()]
+        &self.names[section + 1..section + 1 + size]
+    }
+
+    /// The columns of the rows of the section at this place, in order.
+    pub fn row_columns(&self, section: usize) -> &[Option<Column>]
+        ensures { map (option_map column_seen) result.now ≡ map column_of (rows_of section self.now) }
+    {
+        let size = self.size(section);
+        if size == 0 {
+            return &[];
+        }
+        &self.columns[section + 1..section + 1 + size]
     }
 
     /// The place of the row that has this number in the section at this place: of an attribute in a set, a case in a
@@ -146,7 +187,7 @@ impl<'t> Table<'t> {
     pub fn row(&self, section: usize, number: u64) -> Option<usize>
         ensures { result ≡ row_in self.now section number }
     {
-        let place = self.likely_place(section, number);
+        let place = self.likely.place(section, number);
         if self.firsts.has(place, row_key(section, number)) {
             return Some(place);
         }
@@ -154,16 +195,6 @@ impl<'t> Table<'t> {
             Some(place) => Some(place),
             None => self.rest(section),
         }
-    }
-
-    /// Where a row stands most likely: each number follows the one before it in most sections.
-    fn likely_place(&self, section: usize, number: u64) -> usize {
-        let start = section.saturating_add(1);
-        let least = match self.lines.get(start) {
-            Some(line) => mask_of(line),
-            None => 0,
-        };
-        start.saturating_add(number.saturating_sub(least) as usize)
     }
 
     /// The place of the case that this text picks of the choice at this place, or of `else`, if there is one. Looks at
@@ -255,6 +286,17 @@ fn rows_of<'s, 't>(lines: &'s [Line<'t>], section: usize) -> &'s [Line<'t>]
     } else {
         &[]
     }
+}
+
+/// How many rows follow each of these lines, in order. Refused where memory runs out.
+fn all_sizes(alloc: Global, lines: &[Line<'_>]) -> Result<Vec<usize>, AllocError>
+    ensures { IfOk result (λ sizes. sizes.items ≡ sizes_of (map line_seen lines.now)) }
+{
+    let mut sizes = Vec::with_capacity(alloc, lines.len())?;
+    for section in 0..lines.len() {
+        sizes.push(rows_of(lines, section).len())?;
+    }
+    Ok(sizes)
 }
 
 /// Whether this case is picked by this text.

@@ -172,6 +172,28 @@ fn options_of_rows_are_in_order(rt: HostRuntime) -> Result<(), ReadError> {
 }
 
 #[test]
+fn columns_are_of_fields_without_names_of_values(rt: HostRuntime) -> Result<(), ReadError> {
+    let table = Table::read(rt.alloc(), LINKS.as_bytes())?;
+    let wanted = [
+        Some((0, 1, Kind::U8, " ifi_family ", "\"ifi_family\":")),
+        None,
+        Some((4, 8, Kind::S32, " ifi_index ", "\"ifi_index\":")),
+        None,
+    ];
+    let found = table.row_columns(place_of(&table, b"ifinfomsg"));
+    assert_eq!(rt; found.len(), wanted.len());
+    for (column, wanted) in found.iter().zip(wanted) {
+        let column = match column {
+            Some(it) => Some((it.start, it.end, it.kind, &*it.text, &*it.json)),
+            None => None,
+        };
+        assert_eq!(rt; column, wanted);
+    }
+    assert!(rt; table.row_columns(9999).is_empty());
+    Ok(())
+}
+
+#[test]
 fn names_without_escapes_are_kept(rt: HostRuntime) -> Result<(), ReadError> {
     let text = "family rt-link 0\nenum named\n  value up\"per 1\n  value ~lower~ 2\n  value ä 3\n";
     let table = Table::read(rt.alloc(), text.as_bytes())?;
