@@ -2,8 +2,11 @@
 use Rattle.std.proofs.Common.{◌≡◌, ◌∙◌, ◌<◌, ℕ, List, ◌++◌, codes, length, map, get_or, Option, Some, None}
 use Rattle.std.proofs.Common.{ap, sym, arith}
 use Rattle.std.specs.Borrow.{Bor}
+use Rattle.std.specs.Option.{option_map}
 use Rattle.std.proofs.lemmas.List.{append_assoc, get_or-map, length-map}
+use Rattle.neli_tables.specs.declared.column.Column.{Column}
 use Rattle.neli_tables.specs.declared.line.Line.{Line}
+use Rattle.neli_tables.specs.Columns.{column_seen}
 use Rattle.neli_tables.specs.declared.options.Options.{Options}
 use Rattle.neli_tables.specs.Families.{Lines}
 use Rattle.neli_tables.specs.Lines.{LineSeen, line_seen}
@@ -12,6 +15,7 @@ use Rattle.neli_tables.specs.Plain.{name_seen, plain_name}
 use Rattle.neli_tables_walk.specs.FieldBytes.{field_bytes_by}
 use Rattle.neli_tables_walk.specs.FieldLists.{Printed, field_text_by, member_by, member_json_with, member_with, text_if}
 use Rattle.neli_tables_walk.specs.Names.{name_json, name_text}
+use Rattle.neli_tables_walk.specs.Rows.{columns_seen}
 
 -- the options at the place of a row are the row's
 pub options_here : (rows : List Line) (all : List Options) (lines : List LineSeen) (i : ℕ) (x : Line) (o : Options)
@@ -33,6 +37,25 @@ name_here rows names lines i x are kept within at =
     ∙ ap (λ ns. get_or ns i None) (kept ∙ ap (map plain_name) (sym are))
     ∙ get_or-map plain_name (map line_seen rows) i (line_seen x) None (omega (arith, within, length-map rows line_seen))
     ∙ ap plain_name (get_or-map line_seen rows i x (line_seen x) within ∙ ap line_seen (sym at))
+
+-- what is kept of rows in another form, at the place of a row, is the row's
+pub kept_here : {A B : Type 0} (view : A → B) (f : LineSeen → B) (rows : List Line) (kept : List A)
+    (lines : List LineSeen) (i : ℕ) (x : Line) (k : A) → map line_seen rows ≡ lines → map view kept ≡ map f lines
+    → i < length rows → x ≡ get_or rows i x → k ≡ get_or kept i k → view k ≡ f (line_seen x)
+kept_here view f rows kept lines i x k are is within at here =
+    let many : length kept ≡ length rows =
+    omega (arith, length-map kept view, length-map lines f, length-map rows line_seen, ap length is, ap length are) in
+    ap view here
+    ∙ sym (get_or-map view kept i k (view k) (omega (arith, many, within)))
+    ∙ ap (λ ns. get_or ns i (view k)) (is ∙ ap (map f) (sym are))
+    ∙ get_or-map f (map line_seen rows) i (line_seen x) (view k) (omega (arith, within, length-map rows line_seen))
+    ∙ ap f (get_or-map line_seen rows i x (line_seen x) within ∙ ap line_seen (sym at))
+
+-- a column that is lent is the one that is kept
+pub lent_column : (lent : Option (Bor Column)) (kept : Option Column)
+    → option_map (λ (c : Bor Column). c.now) lent ≡ kept → columns_seen lent ≡ option_map column_seen kept
+lent_column (Some c) kept is = ap (option_map column_seen) is
+lent_column None kept is = ap (option_map column_seen) is
 
 module _ (by : Printed) (table : Lines) (bytes : List ℕ) (row : LineSeen) (o : Options) (same : o ≡ options_of row) where
   -- the text of a field that has these bytes, or none

@@ -1,4 +1,5 @@
 mod Around
+mod Ends
 mod FieldRows
 mod Pairs
 mod Lists
@@ -10,3 +11,4 @@ pub mod Attributes
 pub mod BodyTexts
 mod ValueLists
 mod ValueTexts
+mod Columns

@@ -19,7 +19,7 @@ use Rattle.neli_tables_walk.specs.Elements.{Elem, Elements, Left, element_at, el
 use Rattle.neli_tables_walk.specs.Elements.{elements_of}
 use Rattle.neli_tables_walk.specs.Shapes.{ContextSeen, ListSeen, listed_seen, onto}
 use Rattle.neli_tables_walk.specs.Walks.{Seen, closed, element_item, element_seen_at, inner_items}
-use Rattle.neli_tables_walk.specs.Walks.{left_items, left_seen}
+use Rattle.neli_tables_walk.specs.Walks.{Enters, later_level, left_items, left_seen}
 use Rattle.neli_tables_walk.specs.Walks.{attributes_sort, hops_sort, level_items, list_of}
 use Rattle.neli_tables_walk.specs.Walks.{open_items, shape_in, sort_in, step_of, walked}
 use Rattle.neli_tables_walk.proofs.Lists.{elements-end, elements-fault, elements-more}
@@ -161,10 +161,6 @@ open-fault c levels last e any is =
     (listed_seen last.list) (9 - length (insides levels)) (Some (last.rest.now, e)))
 
 -- ---- an element is left of it
-
--- it, with this left and this given last
-abbrev pub later_level : Level → Bor (List ℕ) → Step → Level
-later_level level rest step = record level { rest = rest; inside = step }
 
 module _ (c : ContextSeen) (levels : List Level) (last : Level) (rest : Bor (List ℕ)) (e : Elem)
     (is : element_at last.list.sort last.rest.now ≡ Ok (e, rest.now)) where
@@ -327,3 +323,14 @@ closed-is (Hops nest) sort is =
 closed-is Bytes sort is = absurd cc
 closed-is (Short nest) sort is = absurd cc
 closed-is (Deep nest) sort is = absurd cc
+
+-- what is found may be given by another term
+pub enters-as : (c : ContextSeen) (levels : List Level) (found same : Shape) (payload : List ℕ)
+    (after : List Level) (shape : Shape) → found ≡ same
+    → Enters c levels found payload after shape → Enters c levels same payload after shape
+enters-as c levels found same payload after shape is entered = rw (sym is) entered
+
+-- a row that is no list is not entered
+pub enters-row : (c : ContextSeen) (levels : List Level) (found : Shape) (payload : List ℕ)
+    (place : ℕ) → found ≡ Row place → Enters c levels found payload levels (Row place)
+enters-row c levels found payload place is = rw is (λ _. (refl, refl), λ _. (refl, refl))

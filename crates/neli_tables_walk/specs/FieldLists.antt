@@ -1,5 +1,5 @@
 -- The fields of a structure, by what prints the value of one.
-use Rattle.std.specs.Prelude.{ℕ, List, [], ◌∷◌, ◌++◌, codes, Option, Some, None}
+use Rattle.std.specs.Prelude.{◌≡◌, ℕ, List, [], ◌∷◌, ◌++◌, codes, Option, Some, None}
 use Rattle.std.specs.List.{flat_map}
 use Rattle.neli_tables.specs.Lines.{LineSeen}
 use Rattle.neli_tables.specs.declared.options.Options.{Options}
@@ -7,12 +7,20 @@ use Rattle.neli_tables.specs.Families.{Lines}
 use Rattle.neli_tables.specs.Options.{options_of}
 use Rattle.neli_tables.specs.FoundRows.{rows_of}
 use Rattle.neli_tables_walk.specs.FieldBytes.{field_bytes}
+use Rattle.neli_tables_walk.specs.declared.number.Number.{Number}
 use Rattle.neli_tables_walk.specs.Lists.{joined}
 use Rattle.neli_tables_walk.specs.Names.{name_json, name_text}
+use Rattle.neli_tables_walk.specs.Numbers.{plain_number_json}
 
 -- what is printed of bytes by the options of their line
 abbrev pub Printed : Type 0
 Printed = Lines → Options → List ℕ → List ℕ
+
+-- the field of a row is a number, of which these are printed: what stands before it, and its digits
+abbrev pub PrintsNumber : Printed → List ℕ → LineSeen → List ℕ → Number → Type 0
+PrintsNumber value before row bytes n =
+    (part : List ℕ) × (field_bytes row bytes ≡ Some part)
+    × ((table : Lines) → value table (options_of row) part ≡ before ++ plain_number_json n)
 
 -- a field's name and its value, if it is there
 abbrev pub text_if : Printed → Lines → LineSeen → Option (List ℕ) → List ℕ

@@ -26,3 +26,4 @@ pub mod Structures
 pub mod Values
 pub mod Visited
 pub mod laws
+pub mod Rows

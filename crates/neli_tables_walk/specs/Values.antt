@@ -1,7 +1,9 @@
 -- Payloads by the lines of a table, as text and as JSON.
-use Rattle.std.specs.Prelude.{ℕ, if◌then◌else◌, is_some, List, ◌++◌, length, codes}
+use Rattle.std.specs.Prelude.{ℕ, Bool, false, if◌then◌else◌, is_some, List, ◌++◌, length, codes}
 use Rattle.std.specs.Prelude.{Option, Some, None, slice_get}
 use Rattle.std.specs.Option.{option_map}
+use Rattle.neli_tables.specs.declared.kind.Kind.{Kind}
+use Rattle.neli_tables.specs.declared.kind.Kind.TheVariants as kind
 use Rattle.neli_tables.specs.declared.options.Options.{Options}
 use Rattle.neli_tables.specs.Families.{Lines}
 use Rattle.neli_tables.specs.Options.{options_of}
@@ -62,3 +64,17 @@ line_breach table bytes (Some o) = form_breach (form_of table o (length bytes)) 
 -- how a payload cannot be of its kind
 abbrev pub payload_breach : Lines → ℕ → List ℕ → Option Breach
 payload_breach table place bytes = line_breach table bytes (line_options table place)
+
+-- ---- one structure
+
+abbrev pub struct_by : Option Kind → Bool → Option ℕ → Option ℕ
+struct_by (Some kind.Struct) false of = of
+struct_by k array of = None
+
+abbrev pub struct_of : Option Options → Option ℕ
+struct_of None = None
+struct_of (Some o) = struct_by o.kind o.array o.of
+
+-- the place of the structure that a payload is by the line at a place, if it is one
+abbrev pub struct_in : Lines → ℕ → Option ℕ
+struct_in table place = struct_of (line_options table place)

@@ -1,7 +1,8 @@
 -- Walks: the elements of a list, each with its path, and after a nest those in it.
-use Rattle.std.specs.Prelude.{ℕ, zero, suc, ◌-◌, true, false, if◌then◌else◌, List, [], ◌∷◌, ◌++◌}
-use Rattle.std.specs.Prelude.{length, drop}
+use Rattle.std.specs.Prelude.{ℕ, zero, suc, ◌≡◌, ◌<◌, ◌-◌, true, false, if◌then◌else◌, List, [], ◌∷◌}
+use Rattle.std.specs.Prelude.{◌++◌, length, drop, map}
 use Rattle.std.specs.Prelude.{Option, Some, None, Result, Ok, Err}
+use Rattle.std.specs.Borrow.{Bor}
 use Rattle.std.specs.List.{flat_map}
 use Rattle.neli_attr.specs.AttrType.{AttrType}
 use Rattle.neli_wire.specs.declared.errors.DeError.{DeError}
@@ -17,7 +18,7 @@ use Rattle.neli_tables_walk.specs.declared.shape.Nest.{Nest as NestOf}
 use Rattle.neli_tables_walk.specs.declared.shape.Shape.{Shape}
 use Rattle.neli_tables_walk.specs.declared.shape.Shape.TheVariants.{Nest, Hops, Deep}
 use Rattle.neli_tables_walk.specs.Elements.{Elem, Elements, Left, elements_of}
-use Rattle.neli_tables_walk.specs.Shapes.{ContextSeen, Lines, ListSeen, listed_seen, row_shape}
+use Rattle.neli_tables_walk.specs.Shapes.{ContextSeen, Lines, ListSeen, listed_seen, onto, row_shape}
 
 -- what is said of an element: its type field, its payload's bytes, and what these are
 abbrev pub Said : Type 0
@@ -46,11 +47,16 @@ step_with table sort (Some kind) =
 abbrev pub step_of : ContextSeen → Sort → Elem → Step
 step_of context sort element = step_with context.0 sort element.0
 
--- what an element of a list is, which stands in these: a hop is its structure and its attributes
+-- what a payload is by its row in a list that stands in these: a hop is its structure and its
+-- attributes
+abbrev pub listed_shape : ContextSeen → ListSeen → List ListSeen → Option ℕ → List ℕ → Shape
+listed_shape context list around row payload =
+    if list.0.is_hops then Nest list.0.nest else row_shape context (list ∷ around) row payload
+
+-- what an element of a list is, which stands in these
 abbrev pub shape_in : ContextSeen → ListSeen → List ListSeen → Elem → Shape
 shape_in context list around element =
-    if list.0.is_hops then Nest list.0.nest
-    else row_shape context (list ∷ around) (step_of context list.0 element).row element.1
+    listed_shape context list around (step_of context list.0 element).row element.1
 
 -- a nest that is not entered
 abbrev pub closed : Shape → Shape
@@ -148,6 +154,34 @@ open_items context path around [] = []
 open_items context path around (level ∷ deeper) =
     open_items context (path ++ level.inside ∷ []) (listed_seen level.list ∷ around) deeper
     ++ level_items context path around level
+
+-- a list of which this is left, and of which this was given last
+abbrev pub later_level : Level → Bor (List ℕ) → Step → Level
+later_level level rest step = record level { rest = rest; inside = step }
+
+-- what a payload is that was given last of a list, which stands in these
+abbrev pub given_shape : ContextSeen → List Level → Level → List ℕ → Shape
+given_shape context around last payload =
+    listed_shape context (listed_seen last.list) (onto around []) last.inside.row payload
+
+-- the lists after these, and the shape that is given, where this was found of a payload: if it is a
+-- list, its items come before the others; if ten lists are open, it is not entered
+abbrev pub Enters : ContextSeen → List Level → Shape → List ℕ → List Level → Shape → Type 0
+Enters context levels found payload after shape =
+    (length levels ≡ 10
+    → (shape ≡ closed found)
+    × (open_items context [] [] after ≡ open_items context [] [] levels))
+    × (length levels < 10
+    → (shape ≡ found)
+    × (open_items context [] [] after
+    ≡ inner_items (walked context (9 - length levels) (map (λ (l : Level). l.inside) levels)
+    (onto levels [])) (list_of found payload) ++ open_items context [] [] levels))
+
+-- the same of a payload that was given last of the innermost list
+abbrev pub EntersGiven : ContextSeen → List Level → List ℕ → List Level → Shape → Type 0
+EntersGiven context levels payload after shape =
+    (around : List Level) (last : Level) → levels ≡ around ++ last ∷ []
+    → Enters context levels (given_shape context around last payload) payload after shape
 
 -- what was left before an item, where `later` is left after it: nothing where there is none
 abbrev pub next_item : Option Item → List Seen → List Seen

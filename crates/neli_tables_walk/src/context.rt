@@ -1,9 +1,11 @@
 //! What payloads are read by.
 
-ghost use Rattle.std.specs.Prelude.{◌≡◌, ◌∷◌, [], Some};
+ghost use Rattle.std.specs.Prelude.{ℕ, ◌≡◌, List, ◌∷◌, [], IfSome, Some};
 ghost use Rattle.std.specs.Option.{option_map};
 ghost use Rattle.neli_tables_walk.specs.Shapes.{case_shape, context_seen, hops_shape, line_options};
-ghost use Rattle.neli_tables_walk.specs.Shapes.{listed_seen};
+ghost use Rattle.neli_tables_walk.specs.declared.shape.Shape.TheVariants.{Row};
+ghost use Rattle.neli_tables_walk.specs.Shapes.{ListSeen, listed_seen};
+ghost use Rattle.neli_tables_walk.specs.Walks.{listed_shape};
 ghost use Rattle.neli_tables_walk.specs.Shapes.{nest_of, nest_shape};
 ghost use Rattle.neli_tables_walk.specs.Shapes.{onto, options_shape, row_shape, size_of};
 
@@ -89,7 +91,42 @@ impl<'w, 't> Context<'w, 't> {
         }
     }
 
-    /// What a payload is by its row, in this list and these around it.
+    /// What a payload is by its row, in this list and these around it: a hop is its structure and
+    /// its attributes.
+    pub(crate) fn listed_shape(
+        &self,
+        list: &Listed<'_>,
+        around: &[Level<'_>],
+        row: Option<usize>,
+        payload: &[u8],
+    ) -> Shape
+        ensures { result
+            ≡ listed_shape (context_seen self.now) (listed_seen list.now)
+            (onto around.now []) row payload.now }
+    {
+        if list.sort.is_hops {
+            Shape::Nest(list.sort.nest)
+        } else {
+            self.row_shape(list, around, row, payload)
+        }
+    }
+
+    /// This row, where it alone says what a payload is: its kind is neither attributes nor hops, and
+    /// is no choice.
+    #[inline(always)]
+    pub(crate) fn plain_row(&self, row: Option<usize>) -> Option<usize>
+        ensures { IfSome result (λ place. (lists : List ListSeen) (payload : List ℕ)
+            → row_shape (context_seen self.now) lists row payload ≡ Row place) }
+    {
+        let place = row?;
+        let options = self.line_options(place)?;
+        match options.kind {
+            Some(Kind::Nest | Kind::Hops | Kind::Choice) => None,
+            _ => Some(place),
+        }
+    }
+
+    /// What the payload of an attribute is by its row, in this list and these around it.
     pub(crate) fn row_shape(
         &self,
         list: &Listed<'_>,

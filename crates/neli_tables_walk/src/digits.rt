@@ -54,7 +54,12 @@ pub struct Decimal(pub u64);
 impl fmt::Display for Decimal {
     ghost output = { λ d. Some (decimal d.0) };
 
+    #[inline(always)]
+    #[tactic(auto, using(crate::proofs::Pairs::decimal_two, crate::proofs::Pairs::written_more))]
     fn fmt<W: fmt::Write>(&self, f: &mut fmt::Formatter<W>) -> fmt::Result {
+        if self.0 < 10 {
+            return f.write_str(digit(self.0));
+        }
         write_decimal(self.0, f)
     }
 }
@@ -70,6 +75,6 @@ impl fmt::Display for SignedDecimal {
         if self.0 < 0 {
             f.write_str("-")?;
         }
-        write_decimal(self.0.unsigned_abs(), f)
+        Display::fmt(&Decimal(self.0.unsigned_abs()), f)
     }
 }

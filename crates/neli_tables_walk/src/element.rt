@@ -26,6 +26,7 @@ pub struct Element<'b> {
 }
 
 /// The element that these bytes begin with, and what follows it and its padding.
+#[inline(always)]
 pub fn take_element<'b>(sort: &Sort, bytes: &'b [u8]) -> Result<(Element<'b>, &'b [u8]), DeError>
     ensures value { IfOk result (λ r. element_at sort.now bytes.now
         ≡ Ok (element_seen r.0, r.1.now)) }
@@ -39,6 +40,7 @@ pub fn take_element<'b>(sort: &Sort, bytes: &'b [u8]) -> Result<(Element<'b>, &'
 }
 
 /// The attribute that these bytes begin with, and what follows it.
+#[inline(always)]
 fn take_attribute(bytes: &[u8]) -> Result<(Element<'_>, &[u8]), DeError>
     ensures value { IfOk result (λ r. attribute_read (frame_at attribute_layout bytes.now)
         ≡ Ok (element_seen r.0, r.1.now)) }

@@ -1,24 +1,28 @@
 //! The fields of a structure.
 
-ghost use Rattle.std.specs.Prelude.{◌≡◌, ◌++◌, Some, codes};
+ghost use Rattle.std.specs.Prelude.{◌≡◌, ◌++◌, [], IfSome, List, Some, codes, ℕ};
 ghost use Rattle.std.specs.Fmt.{WritesOnOk};
+ghost use Rattle.neli_tables.specs.Columns.{column_of, column_seen};
 ghost use Rattle.neli_tables.specs.Lines.{line_seen};
+ghost use Rattle.neli_tables.specs.Options.{options_of};
 ghost use Rattle.neli_tables.specs.Plain.{name_seen, plain_name};
 ghost use Rattle.neli_tables_walk.specs.Cells.{value_json, value_text};
-ghost use Rattle.neli_tables_walk.specs.FieldLists.{Printed, fields_json_by, fields_text_by, members_by};
+ghost use Rattle.neli_tables_walk.specs.FieldLists.{Printed, PrintsNumber, field_text_by};
+ghost use Rattle.neli_tables_walk.specs.FieldLists.{fields_json_by, fields_text_by, members_by};
 ghost use Rattle.neli_tables_walk.specs.Fields.{fields_json, fields_text};
 ghost use Rattle.neli_tables_walk.specs.Lists.{joined};
 ghost use Rattle.neli_tables_walk.specs.Names.{name_json, name_text};
 ghost use Rattle.neli_tables_walk.specs.Plains.{item_json, item_text};
+ghost use Rattle.neli_tables_walk.specs.Rows.{IsRow};
 
 use crate::cell::{Value, ValueJson, ValueText};
 use crate::field_bytes::field_bytes;
 use crate::name::Name;
 use crate::named::{NamedJson, NamedText};
-use crate::number::NumberJson;
-use crate::numbered::{digits_by, number_by};
+use crate::number::{Number, NumberJson};
+use crate::numbered::{digits_as, number_by};
 use crate::plain::{Item, ItemJson, ItemText};
-use neli_tables::{Line, Options, Table};
+use neli_tables::{Column, Line, Options, Table};
 use std::fmt;
 use std::fmt::Display;
 
@@ -38,6 +42,9 @@ trait FieldPrinter {
     /// What it prints of bytes by the options of their line.
     ghost printed: { Printed };
 
+    /// What it prints before a number.
+    ghost before: { List ℕ };
+
     /// Prints the value of a field that is these bytes.
     fn print<W: fmt::Write>(
         table: &Table<'_>,
@@ -47,6 +54,20 @@ trait FieldPrinter {
     ) -> fmt::Result
         ensures writes { WritesOnOk W.Write.write_str_gives f.old result
             (printed table.now options.now bytes.now) f.new };
+
+    /// The number of a column, if the bytes of a structure have it, and nothing but its digits is to be printed at once.
+    fn number(
+        _row: &Line<'_>,
+        _options: &Options,
+        _column: &Column,
+        _bytes: &[u8],
+    ) -> Option<Number>
+        requires options { _options.now ≡ options_of (line_seen _row.now) }
+        requires column { column_of (line_seen _row.now) ≡ Some (column_seen _column.now) }
+        ensures { IfSome result (PrintsNumber printed before (line_seen _row.now) _bytes.now) }
+    {
+        None
+    }
 }
 
 /// Values as text.
@@ -55,22 +76,25 @@ enum PrintsText {}
 impl FieldPrinter for PrintsText {
     ghost printed = { value_text };
 
+    ghost before = { codes " " };
+
     fn print<W: fmt::Write>(
         table: &Table<'_>,
         options: &Options,
         bytes: &[u8],
         f: &mut fmt::Formatter<W>,
     ) -> fmt::Result {
-        if let Some(number) = digits_by(options, bytes) {
-            f.write_str(" ")?;
-            return Display::fmt(&NumberJson(number), f);
-        }
         if let Some(number) = number_by(table, options, bytes) {
             f.write_str(" ")?;
             return Display::fmt(&NamedText(number), f);
         }
         let value = ValueText(Value::of(table, options, bytes));
         Display::fmt(&value, f)
+    }
+
+    #[inline(always)]
+    fn number(row: &Line<'_>, options: &Options, column: &Column, bytes: &[u8]) -> Option<Number> {
+        number_at(row, options, column, bytes)
     }
 }
 
@@ -80,20 +104,24 @@ enum PrintsJson {}
 impl FieldPrinter for PrintsJson {
     ghost printed = { value_json };
 
+    ghost before = { [] };
+
     fn print<W: fmt::Write>(
         table: &Table<'_>,
         options: &Options,
         bytes: &[u8],
         f: &mut fmt::Formatter<W>,
     ) -> fmt::Result {
-        if let Some(number) = digits_by(options, bytes) {
-            return Display::fmt(&NumberJson(number), f);
-        }
         if let Some(number) = number_by(table, options, bytes) {
             return Display::fmt(&NamedJson(number), f);
         }
         let value = ValueJson(Value::of(table, options, bytes));
         Display::fmt(&value, f)
+    }
+
+    #[inline(always)]
+    fn number(row: &Line<'_>, options: &Options, column: &Column, bytes: &[u8]) -> Option<Number> {
+        number_at(row, options, column, bytes)
     }
 }
 
@@ -102,6 +130,8 @@ enum PrintsFlatText {}
 
 impl FieldPrinter for PrintsFlatText {
     ghost printed = { item_text };
+
+    ghost before = { codes " " };
 
     fn print<W: fmt::Write>(
         table: &Table<'_>,
@@ -120,6 +150,8 @@ enum PrintsFlatJson {}
 impl FieldPrinter for PrintsFlatJson {
     ghost printed = { item_json };
 
+    ghost before = { [] };
+
     fn print<W: fmt::Write>(
         table: &Table<'_>,
         options: &Options,
@@ -129,6 +161,19 @@ impl FieldPrinter for PrintsFlatJson {
         let value = ItemJson(Item::of(table, options, bytes));
         Display::fmt(&value, f)
     }
+}
+
+/// The number of a column, if the bytes of a structure have it, and it is printed in decimal digits.
+#[inline(always)]
+fn number_at(_row: &Line<'_>, options: &Options, column: &Column, bytes: &[u8]) -> Option<Number>
+    requires options { options.now ≡ options_of (line_seen _row.now) }
+    requires column { column_of (line_seen _row.now) ≡ Some (column_seen column.now) }
+    ensures text { IfSome result
+        (PrintsNumber value_text (codes " ") (line_seen _row.now) bytes.now) }
+    ensures json { IfSome result (PrintsNumber value_json [] (line_seen _row.now) bytes.now) }
+{
+    let part = bytes.get(column.start..column.end)?;
+    digits_as(options, column.kind, part)
 }
 
 /// Prints the name of a row, which is kept where it needs no escape.
@@ -181,23 +226,68 @@ fn write_key<W: fmt::Write>(
     f.write_str("\":")
 }
 
+/// What a table keeps of a row of a structure.
+#[derive(Clone, Copy)]
+struct Row<'w, 't> {
+    line: &'w Line<'t>,
+    options: &'w Options,
+    column: Option<&'w Column>,
+    name: Option<&'t str>,
+}
+
+/// Prints a field as its name and its value, after blanks, if bytes have it.
+#[inline(always)]
+fn write_field<V: FieldPrinter, W: fmt::Write>(
+    table: &Table<'_>,
+    row: Row<'_, '_>,
+    bytes: &[u8],
+    f: &mut fmt::Formatter<W>,
+) -> fmt::Result
+    requires blank { V.before ≡ codes " " }
+    requires row { IsRow row }
+    ensures writes { WritesOnOk W.Write.write_str_gives f.old result (field_text_by V.printed
+        table.now bytes.now (line_seen row.entry.line.now)) f.new }
+{
+    let Row {
+        line,
+        options,
+        column,
+        name,
+    } = row;
+    if let Some(column) = column {
+        if let Some(number) = V::number(line, options, column, bytes) {
+            f.write_str(&column.text)?;
+            return Display::fmt(&NumberJson(number), f);
+        }
+    }
+    if let Some(part) = field_bytes(line, options, bytes) {
+        write_name(line, name, f)?;
+        return V::print(table, options, part, f);
+    }
+    Ok(())
+}
+
 /// Prints the fields that bytes have, each as its name and its value, after blanks.
 fn write_fields<V: FieldPrinter, W: fmt::Write>(
     fields: Fields<'_, '_, '_>,
     f: &mut fmt::Formatter<W>,
 ) -> fmt::Result
+    requires blank { V.before ≡ codes " " }
     ensures writes { WritesOnOk W.Write.write_str_gives f.old result (fields_text_by V.printed
         fields.entry.table.now fields.entry.place fields.entry.bytes.now) f.new }
 {
     let rows = fields.table.rows(fields.place);
     let all = fields.table.row_options(fields.place);
     let names = fields.table.row_names(fields.place);
-    for (index, row) in rows.iter().enumerate() {
-        let options = &all[index];
-        if let Some(part) = field_bytes(row, options, fields.bytes) {
-            write_name(row, names[index], f)?;
-            V::print(fields.table, options, part, f)?;
-        }
+    let columns = fields.table.row_columns(fields.place);
+    for (index, line) in rows.iter().enumerate() {
+        let row = Row {
+            line,
+            options: &all[index],
+            column: columns[index].as_ref(),
+            name: names[index],
+        };
+        write_field::<V, W>(fields.table, row, fields.bytes, f)?;
     }
     Ok(())
 }
@@ -207,15 +297,26 @@ fn write_members<V: FieldPrinter, W: fmt::Write>(
     fields: Fields<'_, '_, '_>,
     f: &mut fmt::Formatter<W>,
 ) -> fmt::Result
+    requires blank { V.before ≡ [] }
     ensures writes { WritesOnOk W.Write.write_str_gives f.old result (joined (codes ",")
         (members_by V.printed fields.entry.table.now fields.entry.place fields.entry.bytes.now)) f.new }
 {
     let rows = fields.table.rows(fields.place);
     let all = fields.table.row_options(fields.place);
     let names = fields.table.row_names(fields.place);
+    let columns = fields.table.row_columns(fields.place);
     let mut comma = "";
     for (index, row) in rows.iter().enumerate() {
         let options = &all[index];
+        if let Some(column) = &columns[index] {
+            if let Some(number) = V::number(row, options, column, fields.bytes) {
+                f.write_str(comma)?;
+                f.write_str(&column.json)?;
+                Display::fmt(&NumberJson(number), f)?;
+                comma = ",";
+                continue;
+            }
+        }
         if let Some(part) = field_bytes(row, options, fields.bytes) {
             write_key(comma, row, names[index], f)?;
             V::print(fields.table, options, part, f)?;

@@ -1,14 +1,16 @@
 //! The lists that a walk is in.
 
-ghost use Rattle.std.specs.Prelude.{◌≡◌, ◌≢◌, ◌-◌, ◌<◌, ◌≤◌, [], ◌∷◌, ◌++◌, Ok, Err, None, Some};
-ghost use Rattle.std.specs.Prelude.{IfSome, IsNone, length, map, take};
+ghost use Rattle.std.specs.Prelude.{ℕ, ◌≡◌, ◌≢◌, ◌-◌, ◌<◌, ◌≤◌, List, [], ◌∷◌, ◌++◌, Ok, Err, None};
+ghost use Rattle.std.specs.Prelude.{Some, IfSome, IsNone, length, map, take};
 ghost use Rattle.std.specs.Option.{option_map};
 ghost use Rattle.arrayvec.specs.ArrayVec.{array_vec_len};
+ghost use Rattle.neli_tables_walk.specs.declared.level.Level.{Level};
+ghost use Rattle.neli_tables_walk.specs.declared.shape.Shape.TheVariants.{Row};
 ghost use Rattle.neli_tables_walk.specs.Elements.{element_at, element_seen};
 ghost use Rattle.neli_tables_walk.specs.Shapes.{context_seen, listed_seen, onto};
 ghost use Rattle.neli_tables_walk.specs.Visited.{item_at, next_at, parts_of, visit_seen, visited};
-ghost use Rattle.neli_tables_walk.specs.Walks.{closed, inner_items, list_of};
-ghost use Rattle.neli_tables_walk.specs.Walks.{listed_bytes, nested_bytes};
+ghost use Rattle.neli_tables_walk.specs.Walks.{EntersGiven, closed, given_shape, inner_items, later_level};
+ghost use Rattle.neli_tables_walk.specs.Walks.{list_of, listed_bytes, nested_bytes};
 ghost use Rattle.neli_tables_walk.specs.Walks.{next_item, open_items, shape_in, sort_in, step_of};
 ghost use Rattle.neli_tables_walk.specs.Walks.{walked};
 
@@ -46,6 +48,7 @@ impl<'b, 'w, 't> Levels<'b, 'w, 't> {
     }
 
     /// The next item without its path: of the innermost list that has something left.
+    #[inline(always)]
     pub fn take_visit(&mut self) -> Option<Visit<'b>>
         ensures context { self.new.context ≡ self.old.context }
         ensures items { open_items (context_seen self.old.context) [] [] self.old.open.items
@@ -58,82 +61,106 @@ impl<'b, 'w, 't> Levels<'b, 'w, 't> {
         ensures end { IsNone result
             → open_items (context_seen self.new.context) [] [] self.new.open.items ≡ [] }
     {
-        let depth = self.open.len();
-        prove!(depth <= MAX_DEPTH);
-        while let Some(level) = self.open.pop() {
+        while let Some(level) = self.open.as_slice().last() {
             if !level.rest.is_empty() {
-                return Some(self.advance(level));
+                return Some(self.advance());
             }
+            self.open.pop();
         }
         None
     }
 
-    /// The next item of a list that was taken out as the innermost, and is put back.
-    fn advance(&mut self, level: Level<'b>) -> Visit<'b>
-        requires room { array_vec_len self.old.open < MAX_DEPTH }
-        requires some { level.rest.now ≢ [] }
+    /// The next item of the innermost list, of which something is left.
+    #[inline(always)]
+    fn advance(&mut self) -> Visit<'b>
+        requires any { 0 < array_vec_len self.old.open }
+        requires some { (around : List Level) (last : Level)
+            → self.old.open.items ≡ around ++ last ∷ []
+            → last.rest.now ≢ [] }
         ensures context { self.new.context ≡ self.old.context }
         ensures items { item_at result self.new.open.items
             ∷ open_items (context_seen self.old.context) [] [] self.new.open.items
-            ≡ open_items (context_seen self.old.context) [] []
-            (self.old.open.items ++ level.entry ∷ []) }
+            ≡ open_items (context_seen self.old.context) [] [] self.old.open.items }
         ensures visit { visited (item_at result self.new.open.items) ≡ visit_seen result }
         ensures parts { parts_of result ≤ length self.new.open.items }
         ensures few { result.lists ≤ MAX_DEPTH }
     {
+        let last = self.open.len() - 1;
+        let level = &self.open.as_slice()[last];
         match take_element(&level.list.sort, level.rest) {
-            Ok((element, rest)) => self.give_element(level, element, rest),
-            Err(error) => self.give_rest(level, error),
+            Ok((element, rest)) => self.give_element(element, rest),
+            Err(error) => self.give_rest(error),
         }
     }
 
-    /// What is left of a list, which then has nothing left.
-    fn give_rest(&mut self, level: Level<'b>, error: DeError) -> Visit<'b>
-        requires room { array_vec_len self.old.open < MAX_DEPTH }
-        requires some { level.rest.now ≢ [] }
-        requires fault { element_at level.list.sort level.rest.now ≡ Err error }
+    /// What is left of the innermost list, which then has nothing left.
+    #[inline(always)]
+    fn give_rest(&mut self, error: DeError) -> Visit<'b>
+        requires any { 0 < array_vec_len self.old.open }
+        requires some { (around : List Level) (last : Level)
+            → self.old.open.items ≡ around ++ last ∷ []
+            → last.rest.now ≢ [] }
+        requires fault { (around : List Level) (last : Level)
+            → self.old.open.items ≡ around ++ last ∷ []
+            → element_at last.list.sort last.rest.now ≡ Err error }
         ensures context { self.new.context ≡ self.old.context }
         ensures items { item_at result self.new.open.items
             ∷ open_items (context_seen self.old.context) [] [] self.new.open.items
-            ≡ open_items (context_seen self.old.context) [] []
-            (self.old.open.items ++ level.entry ∷ []) }
+            ≡ open_items (context_seen self.old.context) [] [] self.old.open.items }
         ensures visit { visited (item_at result self.new.open.items) ≡ visit_seen result }
         ensures parts { parts_of result ≤ length self.new.open.items }
         ensures few { result.lists ≤ MAX_DEPTH }
     {
-        self.open.push(Level { rest: &[], ..level });
-        let bytes = level.rest;
         Visit {
             lists: self.open.len(),
             step: None,
-            content: Err(Rest { bytes, error }),
+            content: Err(self.take_rest(error)),
         }
     }
 
-    /// The element that is next in a list; if it is a nest, what it has comes next.
-    fn give_element(&mut self, level: Level<'b>, element: Element<'b>, rest: &'b [u8]) -> Visit<'b>
-        requires room { array_vec_len self.old.open < MAX_DEPTH }
-        requires found { element_at level.list.sort level.rest.now
-            ≡ Ok (element_seen element, rest.now) }
+    /// Takes what is left of the innermost list. Few lists have such a rest, and the step to an
+    /// attribute is shorter without this.
+    #[inline(never)]
+    fn take_rest(&mut self, error: DeError) -> Rest<'b>
+        requires { 0 < array_vec_len self.old.open }
+        ensures context { self.new.context ≡ self.old.context }
+        ensures length { length self.new.open.items ≡ length self.old.open.items }
+        ensures error { result.error ≡ error }
+        ensures ended { (around : List Level) (last : Level)
+            → self.old.open.items ≡ around ++ last ∷ []
+            → (result.bytes.now ≡ last.rest.now)
+            × (ended : Level) × (self.new.open.items ≡ around ++ ended ∷ [])
+            × (ended.rest.now ≡ []) }
+    {
+        let last = self.open.len() - 1;
+        let level = &self.open.as_slice()[last];
+        let bytes = level.rest;
+        let inside = level.inside;
+        self.note(&bytes[bytes.len()..], inside);
+        Rest { bytes, error }
+    }
+
+    /// The element that is next in the innermost list; if it is a nest, what it has comes next.
+    #[inline(always)]
+    fn give_element(&mut self, element: Element<'b>, rest: &'b [u8]) -> Visit<'b>
+        requires any { 0 < array_vec_len self.old.open }
+        requires found { (around : List Level) (last : Level)
+            → self.old.open.items ≡ around ++ last ∷ []
+            → element_at last.list.sort last.rest.now ≡ Ok (element_seen element, rest.now) }
         ensures context { self.new.context ≡ self.old.context }
         ensures items { item_at result self.new.open.items
             ∷ open_items (context_seen self.old.context) [] [] self.new.open.items
-            ≡ open_items (context_seen self.old.context) [] []
-            (self.old.open.items ++ level.entry ∷ []) }
+            ≡ open_items (context_seen self.old.context) [] [] self.old.open.items }
         ensures visit { visited (item_at result self.new.open.items) ≡ visit_seen result }
         ensures parts { parts_of result ≤ length self.new.open.items }
         ensures few { result.lists ≤ MAX_DEPTH }
     {
-        let payload = element.payload;
-        let step = self.step_of(&level.list, &element);
-        let shape = self.shape_of(&level.list, &step, &element);
-        self.open.push(Level {
-            rest,
-            inside: step,
-            ..level
-        });
         let lists = self.open.len();
-        let shape = self.enter(shape, payload);
+        let level = &self.open.as_slice()[lists - 1];
+        let step = self.step_of(&level.list, &element);
+        let payload = element.payload;
+        self.note(rest, step);
+        let shape = self.enter_given(payload);
         Visit {
             lists,
             step: Some(step),
@@ -145,7 +172,24 @@ impl<'b, 'w, 't> Levels<'b, 'w, 't> {
         }
     }
 
+    /// Notes what is left of the innermost list, and what was given last of it.
+    #[inline(always)]
+    fn note(&mut self, rest: &'b [u8], inside: Step)
+        requires { 0 < array_vec_len self.old.open }
+        ensures context { self.new.context ≡ self.old.context }
+        ensures length { length self.new.open.items ≡ length self.old.open.items }
+        ensures noted { (around : List Level) (last : Level)
+            → self.old.open.items ≡ around ++ last ∷ []
+            → self.new.open.items ≡ around ++ later_level last rest.entry inside ∷ [] }
+    {
+        let last = self.open.len() - 1;
+        let level = &mut self.open.as_mut_slice()[last];
+        level.rest = rest;
+        level.inside = inside;
+    }
+
     /// The part of a path that an element of this list is.
+    #[inline(always)]
     pub fn step_of(&self, list: &Listed<'b>, element: &Element<'b>) -> Step
         ensures { result
             ≡ step_of (context_seen self.now.context) list.now.sort (element_seen element.now) }
@@ -172,17 +216,78 @@ impl<'b, 'w, 't> Levels<'b, 'w, 't> {
         ensures { result ≡ shape_in (context_seen self.now.context) (listed_seen list.now)
             (onto self.now.open.items []) (element_seen element.now) }
     {
-        if list.sort.is_hops {
-            Shape::Nest(list.sort.nest)
-        } else {
-            self.context
-                .row_shape(list, self.open.as_slice(), step.row, element.payload)
+        self.context
+            .listed_shape(list, self.open.as_slice(), step.row, element.payload)
+    }
+
+    /// What this payload is, which was given last of the innermost list. If it is a nest, what it
+    /// has becomes the innermost list.
+    #[inline(always)]
+    fn enter_given(&mut self, payload: &'b [u8]) -> Shape
+        requires { 0 < array_vec_len self.old.open }
+        ensures context { self.new.context ≡ self.old.context }
+        ensures kept { take (length self.old.open.items) self.new.open.items
+            ≡ self.old.open.items }
+        ensures more { length self.old.open.items ≤ length self.new.open.items }
+        ensures entered { EntersGiven (context_seen self.old.context) self.old.open.items payload.now
+            self.new.open.items result }
+    {
+        match self.plain_row() {
+            Some(place) => Shape::Row(place),
+            None => self.enter_other(payload),
         }
+    }
+
+    /// The row of what was given last of the innermost list, where this row alone says what the
+    /// payload is, and it is no list.
+    #[inline(always)]
+    fn plain_row(&self) -> Option<usize>
+        requires { 0 < array_vec_len self.now.open }
+        ensures { IfSome result (λ place. (around : List Level) (last : Level)
+            → self.now.open.items ≡ around ++ last ∷ []
+            → (payload : List ℕ)
+            → given_shape (context_seen self.now.context) around last payload ≡ Row place) }
+    {
+        let last = self.open.len() - 1;
+        let level = &self.open.as_slice()[last];
+        if level.list.sort.is_hops {
+            None
+        } else {
+            self.context.plain_row(level.inside.row)
+        }
+    }
+
+    /// The same of any payload. Most have a plain row, and the step to these is shorter without this.
+    #[inline(never)]
+    fn enter_other(&mut self, payload: &'b [u8]) -> Shape
+        requires { 0 < array_vec_len self.old.open }
+        ensures context { self.new.context ≡ self.old.context }
+        ensures kept { take (length self.old.open.items) self.new.open.items
+            ≡ self.old.open.items }
+        ensures more { length self.old.open.items ≤ length self.new.open.items }
+        ensures entered { EntersGiven (context_seen self.old.context) self.old.open.items payload.now
+            self.new.open.items result }
+    {
+        let shape = self.given_shape(payload);
+        self.enter(shape, payload)
+    }
+
+    /// What this payload is, which was given last of the innermost list.
+    fn given_shape(&self, payload: &[u8]) -> Shape
+        requires { 0 < array_vec_len self.now.open }
+        ensures { (around : List Level) (last : Level)
+            → self.now.open.items ≡ around ++ last ∷ []
+            → result ≡ given_shape (context_seen self.now.context) around last payload.now }
+    {
+        let levels = self.open.as_slice();
+        let last = levels.len() - 1;
+        let level = &levels[last];
+        self.context
+            .listed_shape(&level.list, &levels[..last], level.inside.row, payload)
     }
 
     /// Makes what a nest has the innermost list. A nest in too many is not entered.
     fn enter(&mut self, shape: Shape, payload: &'b [u8]) -> Shape
-        requires { array_vec_len self.old.open ≤ MAX_DEPTH }
         ensures context { self.new.context ≡ self.old.context }
         ensures kept { take (length self.old.open.items) self.new.open.items
             ≡ self.old.open.items }

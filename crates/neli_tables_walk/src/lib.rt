@@ -91,7 +91,7 @@ pub use item::{Found, Item, Path, Rest, Step, Visit};
 pub use level::MAX_DEPTH;
 pub use located::body_of;
 pub use name::{LineName, Name, NameJson};
-pub use number::{Number, Width, number_in, width_of};
+pub use number::{Number, NumberJson, Width, number_in, width_of};
 pub use offset::find;
 pub use payload::{Payload, PayloadJson, PayloadText, breach_of};
 pub use quoted::Quoted;

@@ -1,11 +1,14 @@
 //! Payloads and fields that are one number.
 
-ghost use Rattle.std.specs.Prelude.{◌≡◌, ◌++◌, IfSome, None, codes};
+ghost use Rattle.std.specs.Prelude.{◌≡◌, ◌++◌, IfSome, IsSome, None, Some, codes, false, length};
 ghost use Rattle.neli_tables.specs.Families.{Lines};
 ghost use Rattle.neli_tables_walk.specs.Cells.{value_json, value_text};
+ghost use Rattle.neli_tables_walk.specs.FieldBytes.{before_zero};
 ghost use Rattle.neli_tables_walk.specs.Named.{number_json, number_text};
 ghost use Rattle.neli_tables_walk.specs.Numbers.{plain_number_json};
-ghost use Rattle.neli_tables_walk.specs.Values.{form_json, form_text, kept_form};
+ghost use Rattle.neli_tables_walk.specs.Breaches.{form_breach};
+ghost use Rattle.neli_tables_walk.specs.Forms.{form_of};
+ghost use Rattle.neli_tables_walk.specs.Values.{form_json, form_text, kept_form, struct_by};
 
 use crate::form::{Cell, Form, Plain, form_of};
 use crate::named::Named;
@@ -61,11 +64,41 @@ pub fn digits_by(options: &Options, bytes: &[u8]) -> Option<Number>
         (kept_form table options.now bytes.now) bytes.now ≡ codes " " ++ plain_number_json n) }
     ensures payload_json { IfSome result (λ n. (table : Lines) → form_json table options.now
         (kept_form table options.now bytes.now) bytes.now ≡ plain_number_json n) }
+    ensures breach { IsSome result → (table : Lines)
+        → form_breach (form_of table options.now (length bytes.now)) bytes.now ≡ None }
+    ensures fields { IsSome result
+        → struct_by options.now.kind options.now.array options.now.of ≡ None }
 {
     if options.array || options.hex || options.values.is_some() || options.flags.is_some() {
         return None;
     }
-    Some(match (options.kind?, bytes.len()) {
+    digits_as(options, options.kind?, bytes)
+}
+
+/// The number that bytes are by this kind, that of these options, by which no value has a name; if
+/// it is printed in decimal digits. The options themselves are not looked at.
+#[inline(always)]
+pub fn digits_as(_options: &Options, kind: Kind, bytes: &[u8]) -> Option<Number>
+    requires array { _options.now.array ≡ false }
+    requires hex { _options.now.hex ≡ false }
+    requires values { _options.now.values ≡ None }
+    requires flags { _options.now.flags ≡ None }
+    requires kind { _options.now.kind ≡ Some kind }
+    ensures text { IfSome result (λ n. (table : Lines) → value_text table _options.now bytes.now
+        ≡ codes " " ++ plain_number_json n) }
+    ensures json { IfSome result (λ n. (table : Lines) → value_json table _options.now bytes.now
+        ≡ plain_number_json n) }
+    ensures payload_text { IfSome result (λ n. (table : Lines) → form_text table _options.now
+        (kept_form table _options.now bytes.now) bytes.now ≡ codes " " ++ plain_number_json n) }
+    ensures payload_json { IfSome result (λ n. (table : Lines) → form_json table _options.now
+        (kept_form table _options.now bytes.now) bytes.now ≡ plain_number_json n) }
+    ensures breach { IsSome result → (table : Lines)
+        → form_breach (form_of table _options.now (length bytes.now)) bytes.now ≡ None }
+    ensures fields { IsSome result
+        → struct_by _options.now.kind _options.now.array _options.now.of ≡ None }
+    ensures whole { IsSome result → before_zero (Some kind) bytes.now ≡ bytes.now }
+{
+    Some(match (kind, bytes.len()) {
         (Kind::U8, 1) => unsigned(bytes[0] as u64),
         (Kind::U16, 2) => unsigned(LittleEndian::read_u16(bytes) as u64),
         (Kind::U32, 4) => unsigned(LittleEndian::read_u32(bytes) as u64),

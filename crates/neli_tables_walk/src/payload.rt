@@ -1,8 +1,9 @@
 //! Payloads by the lines of a table.
 
-ghost use Rattle.std.specs.Prelude.{◌≡◌, Some};
+ghost use Rattle.std.specs.Prelude.{◌≡◌, ◌++◌, IfSome, IsSome, None, Some, codes};
+ghost use Rattle.neli_tables_walk.specs.Numbers.{plain_number_json};
 ghost use Rattle.neli_tables_walk.specs.Values.{form_json, form_text, kept_form, payload_breach};
-ghost use Rattle.neli_tables_walk.specs.Values.{payload_json, payload_text};
+ghost use Rattle.neli_tables_walk.specs.Values.{payload_json, payload_text, struct_in};
 
 use crate::breach::{Breach, form_breach};
 use crate::cell::{Value, ValueJson, ValueText};
@@ -10,7 +11,7 @@ use crate::fields::{Fields, FieldsJson, FieldsText};
 use crate::form::{Cell, Form, Plain, form_of};
 use crate::hex::{Bytes, BytesJson};
 use crate::named::{NamedJson, NamedText};
-use crate::number::NumberJson;
+use crate::number::{Number, NumberJson};
 use crate::numbered::{digits_by, number_by};
 use neli_tables::{Options, Table};
 use std::fmt;
@@ -26,6 +27,22 @@ pub struct Payload<'b, 'w, 't> {
     pub place: usize,
     /// The bytes.
     pub bytes: &'b [u8],
+}
+
+impl Payload<'_, '_, '_> {
+    /// The number that it is, where nothing but the decimal digits of one is printed.
+    #[inline(always)]
+    pub fn digits(&self) -> Option<Number>
+        ensures breach { IsSome result
+            → payload_breach self.now.table.now self.now.place self.now.bytes.now ≡ None }
+        ensures text { IfSome result (λ n. payload_text self.now.table.now self.now.place
+            self.now.bytes.now ≡ codes " " ++ plain_number_json n) }
+        ensures json { IfSome result (λ n. payload_json self.now.table.now self.now.place
+            self.now.bytes.now ≡ plain_number_json n) }
+        ensures fields { IsSome result → struct_in self.now.table.now self.now.place ≡ None }
+    {
+        digits_by(self.table.options(self.place)?, self.bytes)
+    }
 }
 
 /// How a payload cannot be of its kind; `None` where it can. What its line says of lengths, ranges
@@ -162,12 +179,12 @@ impl fmt::Display for PayloadText<'_, '_, '_> {
     ghost output = { λ p. Some (payload_text p.0.table.now p.0.place p.0.bytes.now) };
 
     fn fmt<W: fmt::Write>(&self, f: &mut fmt::Formatter<W>) -> fmt::Result {
+        if let Some(number) = self.0.digits() {
+            f.write_str(" ")?;
+            return Display::fmt(&NumberJson(number), f);
+        }
         match self.0.table.options(self.0.place) {
             Some(options) => {
-                if let Some(number) = digits_by(options, self.0.bytes) {
-                    f.write_str(" ")?;
-                    return Display::fmt(&NumberJson(number), f);
-                }
                 if let Some(number) = number_by(self.0.table, options, self.0.bytes) {
                     f.write_str(" ")?;
                     return Display::fmt(&NamedText(number), f);
@@ -191,11 +208,11 @@ impl fmt::Display for PayloadJson<'_, '_, '_> {
     ghost output = { λ p. Some (payload_json p.0.table.now p.0.place p.0.bytes.now) };
 
     fn fmt<W: fmt::Write>(&self, f: &mut fmt::Formatter<W>) -> fmt::Result {
+        if let Some(number) = self.0.digits() {
+            return Display::fmt(&NumberJson(number), f);
+        }
         match self.0.table.options(self.0.place) {
             Some(options) => {
-                if let Some(number) = digits_by(options, self.0.bytes) {
-                    return Display::fmt(&NumberJson(number), f);
-                }
                 if let Some(number) = number_by(self.0.table, options, self.0.bytes) {
                     return Display::fmt(&NamedJson(number), f);
                 }

@@ -90,6 +90,7 @@ impl<'b, 'w, 't> Model for Visits<'b, 'w, 't> {
 
 impl<'b, 'w, 't> Visits<'b, 'w, 't> {
     /// The next item.
+    #[inline(always)]
     fn step(&mut self) -> Option<Visit<'b>>
         ensures { VisitsFirst self.old result self.new }
     {
@@ -104,6 +105,7 @@ impl<'b, 'w, 't> Iterator for Visits<'b, 'w, 't> {
 
     ghost remaining = { item_count (λ (items : List Seen). items) };
 
+    #[inline(always)]
     fn next(&mut self) -> Option<Visit<'b>> {
         self.step()
     }

@@ -1,4 +1,4 @@
-use Rattle.std.proofs.Common.{◌≡◌, ◌≤◌, [], length}
+use Rattle.std.proofs.Common.{◌≡◌, [], length}
 use Rattle.neli_tables_walk.specs.Walks.{open_items}
 use Rattle.neli_tables_walk.specs.Shapes.{context_seen}
 use Rattle.neli_tables_walk.proofs.levels.Levels.take_visit.Given as goal
@@ -12,4 +12,3 @@ invariant-loop-level l =
     (l.self.context ≡ l.fn.self.context)
     × (open_items (context_seen l.fn.self.context) [] [] l.fn.self.open.items
     ≡ open_items (context_seen l.fn.self.context) [] [] l.self.open.items)
-    × (length l.self.open.items ≤ 10)
