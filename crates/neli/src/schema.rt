@@ -8,8 +8,8 @@
 //!   at the offset that an extended acknowledgement states. [`Refusal`]: an error in one line.
 
 pub use neli_tables::{
-    Kind, Line, MessagePlace, Options, ReadError, Span, Table, Tables, Way, Why, Word, is_set,
-    options_of, prefix_of, unnamed_bits,
+    Column, Kind, Line, MessagePlace, Options, ReadError, Span, Table, Tables, Way, Why, Word,
+    is_set, options_of, prefix_of, unnamed_bits,
 };
 pub use neli_tables_check::{PathText, Place, Refusal, Violation, Wrong, check, find};
 pub use neli_tables_generic::GenericTable;
@@ -17,7 +17,7 @@ pub use neli_tables_routing::RoutingTable;
 pub use neli_tables_system::SystemTable;
 pub use neli_tables_walk::{
     Body, Breach, Context, Fields, FieldsJson, FieldsText, Found, GENERIC_HEADER_SIZE,
-    GenericHeader, Head, Item, MAX_DEPTH, Name, NameJson, Nest, Path, Payload, PayloadJson,
-    PayloadText, Rest, Shape, Step, Visit, Visits, Walk, answer_of, body_of, breach_of, built_in,
-    first_payload, is_answer, learn_from,
+    GenericHeader, Head, Item, MAX_DEPTH, Name, NameJson, Nest, Number, NumberJson, Path, Payload,
+    PayloadJson, PayloadText, Rest, Shape, Step, Visit, Visits, Walk, answer_of, body_of,
+    breach_of, built_in, first_payload, is_answer, learn_from,
 };
