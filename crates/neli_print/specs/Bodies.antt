@@ -13,7 +13,8 @@ use Rattle.neli_tables_walk.specs.Names.{line_name}
 use Rattle.neli_print.specs.Lists.{list_member, list_text}
 use Rattle.neli_print.specs.Names.{Lines, structure_members, structure_text}
 use Rattle.neli_print.specs.Pieces.{indent}
-use Rattle.neli_print.specs.Rests.{rest_member, rest_of, rest_words, struct_in}
+use Rattle.neli_print.specs.Rests.{rest_member, rest_of, rest_words}
+use Rattle.neli_tables_walk.specs.Values.{struct_in}
 
 abbrev pub name_with : Option Lines → Option ℕ → Option (List ℕ)
 name_with (Some table) (Some line) = Some (line_name table line)

@@ -15,8 +15,8 @@ use crate::rests::{RestMember, rest_of};
 use neli_attr::AttrType;
 use neli_tables::Table;
 use neli_tables_walk::{
-    Breach, BytesJson, Decimal, Found, Hex, Item, Payload, PayloadJson, Rest, Shape, Step,
-    breach_of,
+    Breach, BytesJson, Decimal, Found, Hex, Item, NumberJson, Payload, PayloadJson, Rest, Shape,
+    Step, breach_of,
 };
 use std::fmt;
 use std::fmt::Display;
@@ -75,6 +75,11 @@ impl fmt::Display for Row<'_, '_, '_> {
     ghost output = { λ r. Some (row_json r.0.table.now r.0.place r.0.bytes.now) };
 
     fn fmt<W: fmt::Write>(&self, f: &mut fmt::Formatter<W>) -> fmt::Result {
+        if let Some(number) = self.0.digits() {
+            f.write_str(",\"value\":")?;
+            Display::fmt(&NumberJson(number), f)?;
+            return f.write_str("}");
+        }
         let broken = BreachMember(breach_of(&self.0));
         let value = PayloadJson(self.0);
         let rest = RestMember(rest_of(self.0.table, self.0.place, self.0.bytes));

@@ -17,7 +17,8 @@ use crate::rests::{RestWords, rest_of};
 use neli_attr::AttrType;
 use neli_tables::Table;
 use neli_tables_walk::{
-    Breach, Bytes, Found, Item, LineName, Payload, PayloadText, Rest, Shape, Step, breach_of,
+    Breach, Bytes, Found, Item, LineName, NumberJson, Payload, PayloadText, Rest, Shape, Step,
+    breach_of,
 };
 use std::fmt;
 use std::fmt::Display;
@@ -171,6 +172,10 @@ impl fmt::Display for Content<'_, '_, '_> {
                     place: *place,
                     bytes: self.payload,
                 };
+                if let Some(number) = payload.digits() {
+                    f.write_str(" ")?;
+                    return Display::fmt(&NumberJson(number), f);
+                }
                 let broken = BreachWords(breach_of(&payload));
                 let value = PayloadText(payload);
                 let rest = RestWords(rest_of(self.table, *place, self.payload));

@@ -9,7 +9,7 @@ ghost use Rattle.neli_print.specs.Names.{row_name, structure_members, structure_
 use crate::item::front_of;
 use crate::pieces::{Colour, escape};
 use neli_tables::{Table, Word};
-use neli_tables_walk::{Fields, FieldsJson, FieldsText, LineName, Name, NameJson, Nest, Step};
+use neli_tables_walk::{Fields, FieldsJson, FieldsText, LineName, NameJson, Nest, Step};
 use std::fmt;
 use std::fmt::Display;
 
@@ -170,13 +170,16 @@ impl fmt::Display for StructureText<'_, '_, '_> {
             return Ok(());
         };
         let start = escape(self.is_coloured, Colour::Structure);
-        let name = Name(line_name(table, place));
+        let name = LineName { table, place };
         let end = escape(self.is_coloured, Colour::End);
         let fields = FieldsText(Fields {
             table,
             place,
             bytes,
         });
-        write!(f, "{start}{name}{end}{fields}")
+        Display::fmt(&start, f)?;
+        Display::fmt(&name, f)?;
+        Display::fmt(&end, f)?;
+        Display::fmt(&fields, f)
     }
 }

@@ -1,7 +1,8 @@
 //! Structures, and the bytes behind them.
 
 ghost use Rattle.std.specs.Prelude.{◌≡◌, Some, drop};
-ghost use Rattle.neli_print.specs.Rests.{rest_member, rest_of, rest_words, size_at, struct_in};
+ghost use Rattle.neli_print.specs.Rests.{rest_member, rest_of, rest_words, size_at};
+ghost use Rattle.neli_tables_walk.specs.Values.{struct_in};
 
 use neli_tables::{Kind, Table};
 use neli_tables_walk::{Bytes, Hex};

@@ -64,7 +64,8 @@ use Rattle.neli_print.specs.Messages.{content_members, datagram_json, fault_json
 use Rattle.neli_print.specs.Messages.{message_json, place_behind}
 use Rattle.neli_print.specs.Names.{Lines, name_member, row_name, structure_members}
 use Rattle.neli_print.specs.Pieces.{repeated, when}
-use Rattle.neli_print.specs.Rests.{rest_member, rest_of, struct_in}
+use Rattle.neli_print.specs.Rests.{rest_member, rest_of}
+use Rattle.neli_tables_walk.specs.Values.{struct_in}
 use Rattle.neli_print.specs.Replies.{attributes_members, code_in, code_members, echo_members}
 use Rattle.neli_print.specs.Replies.{errno_in, error_members, message_name, parts_members}
 use Rattle.neli_print.specs.Replies.{reply_members, request_member}
