@@ -47,6 +47,9 @@ SHORT, LENGTH, MEMORY, ROOM, HANDLE, LINK, KIND = -1, -2, -3, -4, -6, -11, -15
 MULTICAST = 0
 NESTED = 0x8000
 
+# The attributes of an extended acknowledgement, NLMSGERR_ATTR_.. of linux/netlink.h
+ANSWER_TEXT, ANSWER_OFFSET, ANSWER_MISSING, ANSWER_MISSING_NEST = 1, 2, 5, 6
+
 # The size of the header that attributes of a message of routing stand after, by its type.
 _HEADERS = {16: 16, 20: 8, 24: 12, 28: 12, 32: 12, 36: 20, 40: 20, 44: 20}
 
@@ -150,15 +153,41 @@ class NetlinkError(OSError):
     """Why a request was refused, or an answer is incomplete.
 
     `code` is a number of errno.h, from the kernel's error or from the socket; 0 if there is none. `status` is the code
-    of neli.h, and `str` returns it in words, with the kernel's own text and offset if it sent them.
+    of neli.h, and `str` returns it in words, with the kernel's own text and offset if it sent them. `attributes` are
+    those of its extended acknowledgement, of which `text`, `offset`, `missing` and `missing_nest` are read.
     """
 
-    def __init__(self, code, text, status=KERNEL_ERROR):
+    def __init__(self, code, text, status=KERNEL_ERROR, attributes=()):
         super().__init__(code, text)
-        self.code, self.status = code, status
+        self.code, self.status, self.attributes = code, status, list(attributes)
 
     def __str__(self):
         return self.strerror
+
+    def _number(self, number):
+        found = _first(self.attributes, number)
+        return found and found.u32()
+
+    @property
+    def text(self):
+        """The kernel's own text, or None."""
+        found = _first(self.attributes, ANSWER_TEXT)
+        return found and found.text()
+
+    @property
+    def offset(self):
+        """Where the attribute that the kernel refuses begins in the request, in bytes, or None."""
+        return self._number(ANSWER_OFFSET)
+
+    @property
+    def missing(self):
+        """The number of an attribute that the request lacks, or None."""
+        return self._number(ANSWER_MISSING)
+
+    @property
+    def missing_nest(self):
+        """Where the nest begins that lacks it, in bytes; None if the message itself does."""
+        return self._number(ANSWER_MISSING_NEST)
 
 
 class Attribute:
@@ -209,6 +238,17 @@ class Attribute:
 
 def _first(attributes, number):
     return next((it for it in attributes if it.number == number), None)
+
+
+def _answer_of(message):
+    """The code of an error or an acknowledgement, and the attributes of its extended acknowledgement."""
+    answer, data = _Answer(), message._data
+    if _lib.neli_c_get_answer(data, len(data), ctypes.byref(message._read), ctypes.byref(answer)) != OK:
+        return 0, []
+    try:
+        return answer.code, _attributes(data, answer.attributes.place, answer.attributes.end)
+    except ValueError:
+        return answer.code, []
 
 
 def _attributes(data, start, end):
@@ -491,17 +531,17 @@ class NetlinkSocket:
 
     def _error(self, code, number=0):
         """The error of a call, by its code."""
-        text, answer, said = ctypes.create_string_buffer(512), _Answer(), self._said
+        text, said, attributes = ctypes.create_string_buffer(512), self._said, []
         pointer = ctypes.byref(said._read) if said else None
         if code == KERNEL_ERROR and said:
-            if _lib.neli_c_get_answer(said._data, len(said._data), pointer, ctypes.byref(answer)) == OK:
-                number = -answer.code
+            answered, attributes = _answer_of(said)
+            number = -answered or number
         elif code == LINK and self._at:
             number = _lib.neli_host_fault(self._at)
         if self._at and (code != KERNEL_ERROR or said):
             _lib.neli_host_explain(self._at, code, pointer, text, len(text))
         words = os.fsdecode(text.value) or (os.strerror(number) if number else _text_of(code))
-        return NetlinkError(number, words, code)
+        return NetlinkError(number, words, code, attributes)
 
     def _well(self, code):
         if code != OK:

@@ -219,6 +219,8 @@ class SimulatedSocket(neli.NetlinkSocket):
         return code, self._said
 
     def _error(self, code, number=0):
+        attributes = []
         if code == KERNEL_ERROR and self._said:
-            number = -struct.unpack_from("<i", self._said.payload)[0]
-        return neli.NetlinkError(number, os.strerror(number) if number else neli._text_of(code), code)
+            answered, attributes = neli._answer_of(self._said)
+            number = -answered
+        return neli.NetlinkError(number, os.strerror(number) if number else neli._text_of(code), code, attributes)

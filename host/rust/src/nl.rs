@@ -61,6 +61,11 @@ pub struct NlmsghdrAck<T> {
     nl_pid: u32,
 }
 
+// What Linux 6.1 added to an extended acknowledgement, NLMSGERR_ATTR_MISS_TYPE and NLMSGERR_ATTR_MISS_NEST of
+// linux/netlink.h.
+const MISSING_TYPE: u16 = 5;
+const MISSING_NEST: u16 = 6;
+
 impl<T> NlmsghdrAck<T> {
     /// The length that the request stated.
     pub fn nl_len(&self) -> u32 {
@@ -112,6 +117,16 @@ impl<T> Nlmsgerr<T> {
     /// The place in the request that the kernel refuses, in bytes from the start of its header.
     pub fn offset(&self) -> Option<u32> {
         self.ext_ack().get_attr_payload_as(NlmsgerrAttr::Offset).ok()
+    }
+
+    /// The number of an attribute that the request lacks.
+    pub fn missing_type(&self) -> Option<u32> {
+        self.ext_ack().get_attr_payload_as(NlmsgerrAttr::from(MISSING_TYPE)).ok()
+    }
+
+    /// The place of the nest in the request that lacks it, in bytes; `None` where the message itself does.
+    pub fn missing_nest(&self) -> Option<u32> {
+        self.ext_ack().get_attr_payload_as(NlmsgerrAttr::from(MISSING_NEST)).ok()
     }
 
     fn with_number(self) -> Nlmsgerr<u16>
@@ -415,5 +430,14 @@ mod tests {
             assert_eq!(error.errno(), number);
             assert!(!error.to_string().is_empty());
         }
+    }
+    #[test]
+    fn a_missing_attribute_has_its_number_and_its_nest() {
+        // EINVAL with the flag ACK_TLVS, the echoed header, and NLMSGERR_ATTR_MISS_TYPE and NLMSGERR_ATTR_MISS_NEST.
+        let words = [52, 2 | 0x200 << 16, 0, 0, -22i32 as u32, 16, 16, 0, 0, 8 | 5 << 16, 1, 8 | 6 << 16, 32];
+        let bytes: Vec<u8> = words.iter().flat_map(|it| it.to_ne_bytes()).collect();
+        let answer = Nlmsghdr::<u16, Buffer>::of_bytes(&bytes).expect("is read").into_err().expect("is an error");
+        assert_eq!((answer.missing_type(), answer.missing_nest()), (Some(1), Some(32)));
+        assert_eq!((answer.text(), answer.offset()), (None, None));
     }
 }
