@@ -29,12 +29,12 @@ column_seen c = record {
 }
 
 -- the values have names, or are several, or are printed in hexadecimal digits
-abbrev pub is_worded : Options → Bool
-is_worded o = (o.array || o.hex) || (is_some o.values || is_some o.flags)
+abbrev pub is_formatted : Options → Bool
+is_formatted o = (o.array || o.hex) || (is_some o.values || is_some o.flags)
 
 -- the kind of what is printed as one value without a name
-abbrev pub counted_kind : Options → Option Kind
-counted_kind o = if is_worded o then None else o.kind
+abbrev pub plain_kind : Options → Option Kind
+plain_kind o = if is_formatted o then None else o.kind
 
 abbrev pub column_with : Option Span → Option Kind → Option (List ℕ) → Option ColumnSeen
 column_with (Some span) (Some kind) (Some name) = Some (record {
@@ -53,4 +53,4 @@ is_field w = false
 -- the column of a line: of a field with such a kind, whose name needs no escape
 abbrev pub column_of : LineSeen → Option ColumnSeen
 column_of line =
-    if is_field line.word then column_with line.span (counted_kind (options_of line)) (plain_name line) else None
+    if is_field line.word then column_with line.span (plain_kind (options_of line)) (plain_name line) else None

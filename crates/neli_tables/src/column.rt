@@ -1,9 +1,9 @@
-//! Fields that are numbers, with their names as they are printed.
+//! Fields whose values have no names, with their own names as they are printed.
 
 ghost use Rattle.std.specs.Prelude.{◌≡◌, ◌++◌, map, IfOk};
 ghost use Rattle.std.specs.Option.{option_map};
 ghost use Rattle.std.specs.String.{string_bytes};
-ghost use Rattle.neli_tables.specs.Columns.{column_of, column_seen, counted_kind};
+ghost use Rattle.neli_tables.specs.Columns.{column_of, column_seen, plain_kind};
 ghost use Rattle.neli_tables.specs.Lines.{line_seen};
 
 use crate::plain::plain_name;
@@ -25,9 +25,11 @@ pub struct Column {
     pub json: String,
 }
 
-/// The kind of what is printed without names: one value, in decimal digits if it is a number.
-fn counted_kind(options: &Options) -> Option<Kind>
-    ensures { result ≡ counted_kind options.now }
+/// The kind of one value that has no name, and that is printed in decimal digits if it is a number; `None` where values
+/// have names, are several, or are printed in hexadecimal digits.
+#[inline]
+pub fn plain_kind(options: &Options) -> Option<Kind>
+    ensures { result ≡ plain_kind options.now }
 {
     if options.array || options.hex || options.values.is_some() || options.flags.is_some() {
         return None;
@@ -60,7 +62,7 @@ fn column_of(alloc: Global, line: &Line<'_>) -> Result<Option<Column>, AllocErro
     let Some(span) = line.span else {
         return Ok(None);
     };
-    let Some(kind) = counted_kind(&options_of(line)) else {
+    let Some(kind) = plain_kind(&options_of(line)) else {
         return Ok(None);
     };
     let Some(name) = plain_name(line) else {

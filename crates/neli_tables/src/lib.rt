@@ -35,7 +35,7 @@ mod why;
 mod word;
 
 pub use bits::{is_set, unnamed_bits};
-pub use column::Column;
+pub use column::{Column, plain_kind};
 pub use key::Key;
 pub use kind::Kind;
 pub use line::Line;
