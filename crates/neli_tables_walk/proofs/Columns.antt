@@ -5,7 +5,8 @@ use Rattle.std.specs.Prelude.{◌||◌, IfSome, if◌then◌else◌, is_some, sl
 use Rattle.std.proofs.lemmas.Option.{none-some, same_Some}
 use Rattle.neli_tables.specs.declared.kind.Kind.{Kind}
 use Rattle.neli_tables.specs.declared.number.Span.{Span}
-use Rattle.neli_tables.specs.Columns.{ColumnSeen, column_of, column_with, counted_kind, is_field, is_worded}
+use Rattle.neli_tables.specs.declared.options.Options.{Options}
+use Rattle.neli_tables.specs.Columns.{ColumnSeen, column_of, column_with, is_field, is_formatted, plain_kind}
 use Rattle.neli_tables.specs.Families.{Lines}
 use Rattle.neli_tables.specs.Lines.{LineSeen}
 use Rattle.neli_tables.specs.Options.{options_of}
@@ -61,11 +62,15 @@ none_is : {A : Type 0} (o : Option A) → is_some o ≡ false → o ≡ None
 none_is (Some x) is = cc
 none_is None is = refl
 
+-- the kind of one value without a name is that of the options
+pub kind_alone : (o : Options) (k : Kind) → plain_kind o ≡ Some k → o.kind ≡ Some k
+kind_alone o k is = (if_none (is_formatted o) o.kind k is).1
+
 pub column_says : (row : LineSeen) (c : ColumnSeen) → column_of row ≡ Some c → Says row c
 column_says row c is =
     let o = options_of row in
-    let p = parts_of row.span (counted_kind o) (plain_name row) c (if_some (is_field row.word) _ c is) in
-    let k = if_none (is_worded o) o.kind p.1 p.4 in
+    let p = parts_of row.span (plain_kind o) (plain_name row) c (if_some (is_field row.word) _ c is) in
+    let k = if_none (is_formatted o) o.kind p.1 p.4 in
     let w = neither (o.array || o.hex) (is_some o.values || is_some o.flags) k.0 in
     let several = neither o.array o.hex w.0 in
     let named = neither (is_some o.values) (is_some o.flags) w.1 in

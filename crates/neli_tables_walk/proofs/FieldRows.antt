@@ -3,7 +3,7 @@ use Rattle.std.proofs.Common.{◌≡◌, ◌∙◌, ◌<◌, ℕ, List, ◌++◌
 use Rattle.std.proofs.Common.{ap, sym, arith}
 use Rattle.std.specs.Borrow.{Bor}
 use Rattle.std.specs.Option.{option_map}
-use Rattle.std.proofs.lemmas.List.{append_assoc, get_or-map, length-map}
+use Rattle.std.proofs.lemmas.List.{append_assoc, get_or-map, length-map, map-id}
 use Rattle.neli_tables.specs.declared.column.Column.{Column}
 use Rattle.neli_tables.specs.declared.line.Line.{Line}
 use Rattle.neli_tables.specs.Columns.{column_seen}
@@ -13,43 +13,41 @@ use Rattle.neli_tables.specs.Lines.{LineSeen, line_seen}
 use Rattle.neli_tables.specs.Options.{options_of}
 use Rattle.neli_tables.specs.Plain.{name_seen, plain_name}
 use Rattle.neli_tables_walk.specs.FieldBytes.{field_bytes_by}
-use Rattle.neli_tables_walk.specs.FieldLists.{Printed, field_text_by, member_by, member_json_with, member_with, text_if}
-use Rattle.neli_tables_walk.specs.Names.{name_json, name_text}
+use Rattle.neli_tables_walk.specs.FieldLists.{Printed, member_by, member_json_with, member_with}
+use Rattle.neli_tables_walk.specs.Names.{name_json}
 use Rattle.neli_tables_walk.specs.Rows.{columns_seen}
 
--- the options at the place of a row are the row's
-pub options_here : (rows : List Line) (all : List Options) (lines : List LineSeen) (i : ℕ) (x : Line) (o : Options)
-    → map line_seen rows ≡ lines → all ≡ map options_of lines → i < length rows → x ≡ get_or rows i x
-    → get_or all i o ≡ options_of (line_seen x)
-options_here rows all lines i x o are said within at =
-    ap (λ os. get_or os i o) (said ∙ ap (map options_of) (sym are))
-    ∙ get_or-map options_of (map line_seen rows) i (line_seen x) o (omega (arith, within, length-map rows line_seen))
-    ∙ ap options_of (get_or-map line_seen rows i x (line_seen x) within ∙ ap line_seen (sym at))
+-- what is kept of each row, at the place of a row, is the row's
+kept_at : {A B : Type 0} (view : A → B) (f : LineSeen → B) (rows : List Line) (kept : List A) (lines : List LineSeen)
+    (i : ℕ) (x : Line) (k : A) → map line_seen rows ≡ lines → map view kept ≡ map f lines → i < length rows
+    → x ≡ get_or rows i x → view (get_or kept i k) ≡ f (line_seen x)
+kept_at view f rows kept lines i x k are is within at =
+    let many : length kept ≡ length rows =
+    omega (arith, length-map kept view, length-map lines f, length-map rows line_seen, ap length is, ap length are) in
+    sym (get_or-map view kept i k (view k) (omega (arith, many, within)))
+    ∙ ap (λ ns. get_or ns i (view k)) (is ∙ ap (map f) (sym are))
+    ∙ get_or-map f (map line_seen rows) i (line_seen x) (view k) (omega (arith, within, length-map rows line_seen))
+    ∙ ap f (get_or-map line_seen rows i x (line_seen x) within ∙ ap line_seen (sym at))
 
--- the name that is kept at the place of a row is the row's
-pub name_here : (rows : List Line) (names : List (Option (Bor (List ℕ)))) (lines : List LineSeen) (i : ℕ) (x : Line)
-    → map line_seen rows ≡ lines → map name_seen names ≡ map plain_name lines → i < length rows → x ≡ get_or rows i x
-    → name_seen (get_or names i None) ≡ plain_name (line_seen x)
-name_here rows names lines i x are kept within at =
-    let many : length names ≡ length rows =
-    omega (arith, length-map names name_seen, length-map lines plain_name, length-map rows line_seen, ap length kept, ap length are) in
-    sym (get_or-map name_seen names i None None (omega (arith, many, within)))
-    ∙ ap (λ ns. get_or ns i None) (kept ∙ ap (map plain_name) (sym are))
-    ∙ get_or-map plain_name (map line_seen rows) i (line_seen x) None (omega (arith, within, length-map rows line_seen))
-    ∙ ap plain_name (get_or-map line_seen rows i x (line_seen x) within ∙ ap line_seen (sym at))
-
--- what is kept of rows in another form, at the place of a row, is the row's
 pub kept_here : {A B : Type 0} (view : A → B) (f : LineSeen → B) (rows : List Line) (kept : List A)
     (lines : List LineSeen) (i : ℕ) (x : Line) (k : A) → map line_seen rows ≡ lines → map view kept ≡ map f lines
     → i < length rows → x ≡ get_or rows i x → k ≡ get_or kept i k → view k ≡ f (line_seen x)
 kept_here view f rows kept lines i x k are is within at here =
-    let many : length kept ≡ length rows =
-    omega (arith, length-map kept view, length-map lines f, length-map rows line_seen, ap length is, ap length are) in
-    ap view here
-    ∙ sym (get_or-map view kept i k (view k) (omega (arith, many, within)))
-    ∙ ap (λ ns. get_or ns i (view k)) (is ∙ ap (map f) (sym are))
-    ∙ get_or-map f (map line_seen rows) i (line_seen x) (view k) (omega (arith, within, length-map rows line_seen))
-    ∙ ap f (get_or-map line_seen rows i x (line_seen x) within ∙ ap line_seen (sym at))
+    ap view here ∙ kept_at view f rows kept lines i x k are is within at
+
+-- so are its options
+pub options_here : (rows : List Line) (all : List Options) (lines : List LineSeen) (i : ℕ) (x : Line) (o : Options)
+    → map line_seen rows ≡ lines → all ≡ map options_of lines → i < length rows → x ≡ get_or rows i x
+    → get_or all i o ≡ options_of (line_seen x)
+options_here rows all lines i x o are said within at =
+    kept_at (λ (p : Options). p) options_of rows all lines i x o are (map-id all ∙ said) within at
+
+-- and its name
+pub name_here : (rows : List Line) (names : List (Option (Bor (List ℕ)))) (lines : List LineSeen) (i : ℕ) (x : Line)
+    → map line_seen rows ≡ lines → map name_seen names ≡ map plain_name lines → i < length rows → x ≡ get_or rows i x
+    → name_seen (get_or names i None) ≡ plain_name (line_seen x)
+name_here rows names lines i x are kept within at =
+    kept_at name_seen plain_name rows names lines i x None are kept within at
 
 -- a column that is lent is the one that is kept
 pub lent_column : (lent : Option (Bor Column)) (kept : Option Column)
@@ -58,13 +56,6 @@ lent_column (Some c) kept is = ap (option_map column_seen) is
 lent_column None kept is = ap (option_map column_seen) is
 
 module _ (by : Printed) (table : Lines) (bytes : List ℕ) (row : LineSeen) (o : Options) (same : o ≡ options_of row) where
-  -- the text of a field that has these bytes, or none
-  pub field_has : (part : Option (List ℕ)) → part ≡ field_bytes_by row o bytes
-      → field_text_by by table bytes row ≡ text_if by table row part
-  field_has part is =
-      ap (λ (p : Options). text_if by table row (field_bytes_by row p bytes)) (sym same)
-      ∙ ap (text_if by table row) (sym is)
-
   -- its member of an object
   pub member_has : (part : Option (List ℕ)) → part ≡ field_bytes_by row o bytes
       → member_by by table bytes row ≡ member_with by table row.name o part
@@ -72,15 +63,7 @@ module _ (by : Printed) (table : Lines) (bytes : List ℕ) (row : LineSeen) (o :
       ap (λ (p : Options). member_with by table row.name p (field_bytes_by row p bytes)) (sym same)
       ∙ ap (member_with by table row.name o) (sym is)
 
-  -- what is printed of a field: a blank and its name, and its value
-  pub field_printed : (part : List ℕ) → Some part ≡ field_bytes_by row o bytes
-      → field_text_by by table bytes row ≡ (codes " " ++ name_text row.name) ++ by table o part
-  field_printed part is =
-      field_has (Some part) is
-      ∙ ap (λ (p : Options). codes " " ++ (name_text row.name ++ by table p part)) (sym same)
-      ∙ sym (append_assoc (codes " ") (name_text row.name) (by table o part))
-
-  -- and of a member: its name and a colon, and its value
+  -- what is printed of it: its name and a colon, and its value
   pub member_printed : (part : List ℕ)
       → member_json_with by table row.name o part ≡ (name_json row.name ++ codes ":") ++ by table o part
   member_printed part = sym (append_assoc (name_json row.name) (codes ":") (by table o part))

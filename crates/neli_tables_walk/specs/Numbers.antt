@@ -6,6 +6,8 @@ use Rattle.std.specs.Fmt.{decimal, digits, signed_decimal}
 use Rattle.byteorder.specs.Endian.{big_number, little_number, twos_complement}
 use Rattle.neli_tables.specs.declared.kind.Kind.{Kind}
 use Rattle.neli_tables.specs.declared.kind.Kind.TheVariants as kind
+use Rattle.neli_tables.specs.declared.options.Options.{Options}
+use Rattle.neli_tables.specs.Columns.{plain_kind}
 use Rattle.neli_tables_walk.specs.declared.number.Number.{Number}
 use Rattle.neli_tables_walk.specs.declared.number.Width.{Width}
 
@@ -62,6 +64,32 @@ abbrev pub number_in : Width → List ℕ → Option Number
 number_in w bytes =
     if not (length bytes == w.size) || nat_lt (length bytes) 1 || nat_lt 8 (length bytes) then None
     else Some (number_as w.is_signed (length bytes) (bits_in w.is_big bytes))
+
+abbrev pub number_if : List ℕ → Option Width → Option Number
+number_if bytes None = None
+number_if bytes (Some w) = number_in w bytes
+
+-- of the kinds that most numbers have
+abbrev pub frequent_width : Kind → Option Width
+frequent_width kind.U8 = unsigned 1
+frequent_width kind.U16 = unsigned 2
+frequent_width kind.U32 = unsigned 4
+frequent_width kind.U64 = unsigned 8
+frequent_width kind.S32 = signed 4
+frequent_width k = None
+
+-- the number that bytes of such a kind are
+abbrev pub number_of : Kind → List ℕ → Option Number
+number_of k bytes = number_if bytes (frequent_width k)
+
+abbrev pub number_with : List ℕ → Option Kind → Option Number
+number_with bytes None = None
+number_with bytes (Some k) = number_of k bytes
+
+-- the number that bytes are by these options, where no value has a name and it is printed in decimal digits; of a kind
+-- that most numbers have
+abbrev pub digits_by : Options → List ℕ → Option Number
+digits_by o bytes = number_with bytes (plain_kind o)
 
 -- ---- as text
 

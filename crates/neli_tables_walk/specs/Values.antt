@@ -12,11 +12,13 @@ use Rattle.neli_tables_walk.specs.declared.form.Cell.TheVariants as cell
 use Rattle.neli_tables_walk.specs.declared.form.Form.{Form}
 use Rattle.neli_tables_walk.specs.declared.form.Form.TheVariants as form
 use Rattle.neli_tables_walk.specs.declared.form.Plain.TheVariants as plain
+use Rattle.neli_tables_walk.specs.declared.number.Number.{Number}
 use Rattle.neli_tables_walk.specs.Breaches.{form_breach}
 use Rattle.neli_tables_walk.specs.Cells.{cell_json, cell_text}
 use Rattle.neli_tables_walk.specs.Fields.{fields_json, fields_text}
 use Rattle.neli_tables_walk.specs.Forms.{form_of}
 use Rattle.neli_tables_walk.specs.Hex.{bytes_json, bytes_text}
+use Rattle.neli_tables_walk.specs.Numbers.{digits_by}
 
 -- ---- what a payload is
 
@@ -64,6 +66,16 @@ line_breach table bytes (Some o) = form_breach (form_of table o (length bytes)) 
 -- how a payload cannot be of its kind
 abbrev pub payload_breach : Lines → ℕ → List ℕ → Option Breach
 payload_breach table place bytes = line_breach table bytes (line_options table place)
+
+-- ---- one number
+
+abbrev pub options_digits : List ℕ → Option Options → Option Number
+options_digits bytes None = None
+options_digits bytes (Some o) = digits_by o bytes
+
+-- the number that a payload is by the line at a place, where nothing but its decimal digits is printed
+abbrev pub payload_digits : Lines → ℕ → List ℕ → Option Number
+payload_digits table place bytes = options_digits bytes (line_options table place)
 
 -- ---- one structure
 

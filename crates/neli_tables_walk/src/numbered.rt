@@ -5,7 +5,7 @@ ghost use Rattle.neli_tables.specs.Families.{Lines};
 ghost use Rattle.neli_tables_walk.specs.Cells.{value_json, value_text};
 ghost use Rattle.neli_tables_walk.specs.FieldBytes.{before_zero};
 ghost use Rattle.neli_tables_walk.specs.Named.{number_json, number_text};
-ghost use Rattle.neli_tables_walk.specs.Numbers.{plain_number_json};
+ghost use Rattle.neli_tables_walk.specs.Numbers.{digits_by, number_of, plain_number_json};
 ghost use Rattle.neli_tables_walk.specs.Breaches.{form_breach};
 ghost use Rattle.neli_tables_walk.specs.Forms.{form_of};
 ghost use Rattle.neli_tables_walk.specs.Values.{form_json, form_text, kept_form, struct_by};
@@ -14,7 +14,7 @@ use crate::form::{Cell, Form, Plain, form_of};
 use crate::named::Named;
 use crate::number::{Number, number_in};
 use byteorder::{ByteOrder, LittleEndian};
-use neli_tables::{Kind, Options, Table};
+use neli_tables::{Kind, Options, Table, plain_kind};
 
 /// The number that bytes are by these options, if they are one. As which it is printed needs no
 /// further look at its kind.
@@ -53,7 +53,8 @@ fn unsigned(bits: u64) -> Number
     Number { bits, signed: None }
 }
 
-/// The number that bytes are by these options, if it is printed in decimal digits.
+/// The number that bytes are by these options, if no value has a name and it is printed in decimal
+/// digits; of a kind that numbers seldom have, `None`.
 #[inline(always)]
 pub fn digits_by(options: &Options, bytes: &[u8]) -> Option<Number>
     ensures text { IfSome result (λ n. (table : Lines) → value_text table options.now bytes.now
@@ -68,15 +69,13 @@ pub fn digits_by(options: &Options, bytes: &[u8]) -> Option<Number>
         → form_breach (form_of table options.now (length bytes.now)) bytes.now ≡ None }
     ensures fields { IsSome result
         → struct_by options.now.kind options.now.array options.now.of ≡ None }
+    ensures number { result ≡ digits_by options.now bytes.now }
 {
-    if options.array || options.hex || options.values.is_some() || options.flags.is_some() {
-        return None;
-    }
-    digits_as(options, options.kind?, bytes)
+    digits_as(options, plain_kind(options)?, bytes)
 }
 
-/// The number that bytes are by this kind, that of these options, by which no value has a name; if
-/// it is printed in decimal digits. The options themselves are not looked at.
+/// The number that bytes of this kind are, that of these options, by which no value has a name; of
+/// a kind that numbers seldom have, `None`. The options themselves are not looked at.
 #[inline(always)]
 pub fn digits_as(_options: &Options, kind: Kind, bytes: &[u8]) -> Option<Number>
     requires array { _options.now.array ≡ false }
@@ -97,6 +96,7 @@ pub fn digits_as(_options: &Options, kind: Kind, bytes: &[u8]) -> Option<Number>
     ensures fields { IsSome result
         → struct_by _options.now.kind _options.now.array _options.now.of ≡ None }
     ensures whole { IsSome result → before_zero (Some kind) bytes.now ≡ bytes.now }
+    ensures number { result ≡ number_of kind bytes.now }
 {
     Some(match (kind, bytes.len()) {
         (Kind::U8, 1) => unsigned(bytes[0] as u64),

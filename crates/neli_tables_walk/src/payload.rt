@@ -3,7 +3,7 @@
 ghost use Rattle.std.specs.Prelude.{◌≡◌, ◌++◌, IfSome, IsSome, None, Some, codes};
 ghost use Rattle.neli_tables_walk.specs.Numbers.{plain_number_json};
 ghost use Rattle.neli_tables_walk.specs.Values.{form_json, form_text, kept_form, payload_breach};
-ghost use Rattle.neli_tables_walk.specs.Values.{payload_json, payload_text, struct_in};
+ghost use Rattle.neli_tables_walk.specs.Values.{payload_digits, payload_json, payload_text, struct_in};
 
 use crate::breach::{Breach, form_breach};
 use crate::cell::{Value, ValueJson, ValueText};
@@ -40,6 +40,8 @@ impl Payload<'_, '_, '_> {
         ensures json { IfSome result (λ n. payload_json self.now.table.now self.now.place
             self.now.bytes.now ≡ plain_number_json n) }
         ensures fields { IsSome result → struct_in self.now.table.now self.now.place ≡ None }
+        ensures number { result
+            ≡ payload_digits self.now.table.now self.now.place self.now.bytes.now }
     {
         digits_by(self.table.options(self.place)?, self.bytes)
     }

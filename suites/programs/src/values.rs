@@ -641,6 +641,39 @@ fn fields_are_printed(rt: HostRuntime) -> Result<(), Fail> {
     Ok(())
 }
 
+/// Payloads, and the number that each is where nothing but its digits is printed.
+const DIGITS: [(&[u8], &[u8], Option<(u64, Option<i64>)>); 9] = [
+    (b"U8", b"\xfe", Some((254, None))),
+    (b"U16", b"\x01\x02", Some((513, None))),
+    (b"U32", b"\x01\0\0\x80", Some((2147483649, None))),
+    (b"U64", b"\0\0\0\0\x01\0\0\0", Some((4294967296, None))),
+    (b"S32", b"\xfe\xff\xff\xff", Some((4294967294, Some(-2)))),
+    // Too short, of another kind, with names of values, and several.
+    (b"U32", b"\x01\0\0", None),
+    (b"BE16", b"\x01\x02", None),
+    (b"ENUM", b"\x01", None),
+    (b"STRUCTS", b"\x01\0\0\0\0\x02\0\0", None),
+];
+
+#[test]
+fn payloads_that_are_one_number_are_its_digits(rt: HostRuntime) -> Result<(), Fail> {
+    let alloc = rt.alloc();
+    let Ok(table) = Table::read(alloc, TEXT.as_bytes()) else {
+        assert_eq!(rt; "no table", "");
+        return Ok(());
+    };
+    for (name, bytes, wanted) in DIGITS {
+        let payload = Payload {
+            table: &table,
+            place: place_of(&table, name),
+            bytes,
+        };
+        let found = payload.digits().map(|number| (number.bits, number.signed));
+        assert_eq!(rt; found, wanted, "at {name:?}");
+    }
+    Ok(())
+}
+
 #[test]
 fn a_line_that_is_not_there_is_of_bytes(rt: HostRuntime) -> Result<(), Fail> {
     let alloc = rt.alloc();
