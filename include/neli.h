@@ -110,9 +110,12 @@ struct neli_answer {
     struct neli_walk attributes; /* of the extended acknowledgement; empty if there is none */
 };
 
-/* Numbers of attributes of an extended acknowledgement: a text, and a place in the request as a u32. */
+/* Numbers of attributes of an extended acknowledgement: a text, and a place in the request as a u32; from Linux 6.1 on
+ * also the number of an attribute that is missing, and the place of the nest that lacks it, each as a u32. */
 #define NELI_ANSWER_TEXT 1
 #define NELI_ANSWER_OFFSET 2
+#define NELI_ANSWER_MISSING 5
+#define NELI_ANSWER_MISSING_NEST 6
 
 /* A writing position: the message that was begun last is at `start`, and the next byte goes to `end`. */
 struct neli_writer {

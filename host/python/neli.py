@@ -47,7 +47,7 @@ SHORT, LENGTH, MEMORY, ROOM, HANDLE, LINK, KIND = -1, -2, -3, -4, -6, -11, -15
 MULTICAST = 0
 NESTED = 0x8000
 
-# The attributes of an extended acknowledgement, NLMSGERR_ATTR_.. of linux/netlink.h
+# The attributes of an extended acknowledgement, NELI_ANSWER_..
 ANSWER_TEXT, ANSWER_OFFSET, ANSWER_MISSING, ANSWER_MISSING_NEST = 1, 2, 5, 6
 
 # The size of the header that attributes of a message of routing stand after, by its type.

@@ -32,6 +32,10 @@ pub const BYTES: i32 = -12;
 pub const KIND: i32 = -15;
 pub const TABLE: i32 = -17;
 
+// What Linux 6.1 added to an extended acknowledgement.
+pub const ANSWER_MISSING: u16 = 5;
+pub const ANSWER_MISSING_NEST: u16 = 6;
+
 /// `struct neli_walk`: bytes `place` to `end`.
 #[repr(C)]
 #[derive(Clone, Copy, Debug, Default)]

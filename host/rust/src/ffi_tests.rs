@@ -98,6 +98,11 @@ fn codes_are_those_of_the_header() {
         let line = format!("    {name} = {code}");
         assert!(HEADER.contains(&format!("{line},")) || HEADER.contains(&format!("{line} ")), "{name}");
     }
+    let attributes =
+        [("NELI_ANSWER_MISSING", super::ANSWER_MISSING), ("NELI_ANSWER_MISSING_NEST", super::ANSWER_MISSING_NEST)];
+    for (name, number) in attributes {
+        assert!(HEADER.contains(&format!("#define {name} {number}\n")), "{name}");
+    }
 }
 
 /// Sizes and places are those of a C compiler for x86-64.

@@ -61,11 +61,6 @@ pub struct NlmsghdrAck<T> {
     nl_pid: u32,
 }
 
-// What Linux 6.1 added to an extended acknowledgement, NLMSGERR_ATTR_MISS_TYPE and NLMSGERR_ATTR_MISS_NEST of
-// linux/netlink.h.
-const MISSING_TYPE: u16 = 5;
-const MISSING_NEST: u16 = 6;
-
 impl<T> NlmsghdrAck<T> {
     /// The length that the request stated.
     pub fn nl_len(&self) -> u32 {
@@ -121,12 +116,12 @@ impl<T> Nlmsgerr<T> {
 
     /// The number of an attribute that the request lacks.
     pub fn missing_type(&self) -> Option<u32> {
-        self.ext_ack().get_attr_payload_as(NlmsgerrAttr::from(MISSING_TYPE)).ok()
+        self.ext_ack().get_attr_payload_as(NlmsgerrAttr::from(ffi::ANSWER_MISSING)).ok()
     }
 
     /// The place of the nest in the request that lacks it, in bytes; `None` where the message itself does.
     pub fn missing_nest(&self) -> Option<u32> {
-        self.ext_ack().get_attr_payload_as(NlmsgerrAttr::from(MISSING_NEST)).ok()
+        self.ext_ack().get_attr_payload_as(NlmsgerrAttr::from(ffi::ANSWER_MISSING_NEST)).ok()
     }
 
     fn with_number(self) -> Nlmsgerr<u16>
