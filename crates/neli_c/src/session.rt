@@ -30,7 +30,7 @@ use neli_log::Log;
 use neli_reader::{NlPayload, Nlmsghdr, NlmsghdrBuilder, RouterError, SocketError};
 use neli_router::{Missed, NlRouter, NlRouterReceiverHandle, Notice, Reply};
 use neli_util::Groups;
-use neli_wire::{Constant, NoMemory, ToBytes};
+use neli_wire::{Constant, NoMemory, Size, ToBytes};
 use std::alloc::Global;
 use std::io::ErrorKind;
 use std::mem::replace;
@@ -474,6 +474,8 @@ impl Session {
             return HANDLE;
         };
         let mut bytes = Vec::new(alloc);
+        // Where this is refused, writing asks for room piece by piece.
+        let _ = bytes.reserve(message.padded_size());
         match message.to_bytes(&mut bytes) {
             Ok(()) => copy(&bytes, out, size),
             Err(_) => MEMORY,
