@@ -18,7 +18,7 @@
 #define MEGABYTE (1u << 20)
 #define LARGEST (16 * MEGABYTE)
 #define SIZES 3
-#define READERS 6
+#define READERS 7 /* of attributes; of headers one less */
 #define COPIES 256 /* attributes of a message, at most, whose payloads are copied */
 #define ROOM 16 /* messages or attributes that one call gives: what it fills stays in the nearest cache */
 #ifndef ROUNDS
@@ -182,6 +182,82 @@ static bool copied_link_attributes(const uint8_t *bytes, size_t length, uint64_t
 static bool copied_route_attributes(const uint8_t *bytes, size_t length, uint64_t *total)
 {
 	return copied_attributes(bytes, length, sizeof(struct rtmsg), total);
+}
+
+/* ---- libmnl, with each payload copied, and all attributes of a message in a list, as an owned message has them */
+
+struct kept {
+	uint16_t type, length;
+	void *payload;
+};
+
+/* A list that doubles, from four attributes on. */
+struct list {
+	struct kept *attributes;
+	size_t count, room;
+};
+
+/* External, so that no list can be left out. */
+struct list kept;
+
+static void keep(struct list *list, uint16_t type, const void *bytes, uint16_t length)
+{
+	void *payload = length ? malloc(length) : NULL;
+
+	if (list->count == list->room) {
+		size_t room = list->room ? 2 * list->room : 4;
+		void *more = realloc(list->attributes, room * sizeof(struct kept));
+
+		if (!more)
+			fail("out of memory", "listed");
+		list->attributes = more;
+		list->room = room;
+	}
+	if (length && !payload)
+		fail("out of memory", "listed");
+	if (length)
+		memcpy(payload, bytes, length);
+	list->attributes[list->count++] = (struct kept){ type, length, payload };
+}
+
+static void free_list(struct list *list)
+{
+	for (size_t i = 0; i < list->count; i++)
+		free(list->attributes[i].payload);
+	free(list->attributes);
+	*list = (struct list){ 0 };
+}
+
+/* `header` is the size of the bytes before the attributes. */
+static inline bool listed_attributes(const uint8_t *bytes, size_t length, unsigned int header, uint64_t *total)
+{
+	const struct nlmsghdr *message = (const struct nlmsghdr *)bytes;
+	int left = (int)length;
+	uint64_t sum = 0;
+
+	while (mnl_nlmsg_ok(message, left)) {
+		const struct nlattr *attribute;
+
+		mnl_attr_for_each(attribute, message, header)
+			keep(&kept, mnl_attr_get_type(attribute), mnl_attr_get_payload(attribute),
+			     mnl_attr_get_payload_len(attribute));
+		for (size_t i = 0; i < kept.count; i++)
+			sum += kept.attributes[i].type + kept.attributes[i].length;
+		free_list(&kept);
+		message = mnl_nlmsg_next(message, &left);
+	}
+	*total = sum;
+	return left == 0;
+}
+
+static bool listed_link_attributes(const uint8_t *bytes, size_t length, uint64_t *total)
+{
+	return listed_attributes(bytes, length, sizeof(struct ifinfomsg), total);
+}
+
+static bool listed_route_attributes(const uint8_t *bytes, size_t length, uint64_t *total)
+{
+	return listed_attributes(bytes, length, sizeof(struct rtmsg), total);
 }
 
 /* ---- this library, by its calls for C that give several messages or attributes at once */
@@ -367,12 +443,17 @@ static uint64_t sum_of(const struct reader *reader, struct bytes all)
 	return total;
 }
 
+static bool has_reader(const struct subject *subject, int i)
+{
+	return i < READERS && subject->readers[i].run;
+}
+
 static void check_sums(const struct subject *subject, struct bytes all)
 {
 	const struct reader *readers = subject->readers;
 	uint64_t wanted = sum_of(&readers[0], all);
 
-	for (int i = 1; i < READERS; i++)
+	for (int i = 1; has_reader(subject, i); i++)
 		if (sum_of(&readers[i], all) != wanted)
 			fail("found another sum than libmnl", readers[i].name);
 }
@@ -397,7 +478,7 @@ static void time_readers(struct subject *subject, struct bytes all, int size)
 
 	check_sums(subject, all);
 	for (int round = 0; round < ROUNDS; round++)
-		for (int i = 0; i < READERS; i++) {
+		for (int i = 0; has_reader(subject, i); i++) {
 			double *best = &subject->readers[i].nanoseconds[size];
 			double taken = time_round(&subject->readers[i], all) / messages;
 
@@ -421,7 +502,7 @@ static void print_reader(const char *what, const struct reader *reader, const st
 
 static void print_subject(const struct subject *subject)
 {
-	for (int i = 0; i < READERS; i++)
+	for (int i = 0; has_reader(subject, i); i++)
 		print_reader(i == 0 ? subject->what : "", &subject->readers[i], &subject->readers[0]);
 }
 
@@ -467,6 +548,7 @@ int main(int argc, char **argv)
 		    { .name = "single", .run = single_link_attributes },
 		    { .name = "lent", .run = neli_bench_lent_link_attributes },
 		    { .name = "copied", .run = copied_link_attributes },
+		    { .name = "listed", .run = listed_link_attributes },
 		    { .name = "owned", .run = neli_bench_owned_link_attributes } } },
 	};
 	struct subject routes[] = {
@@ -483,6 +565,7 @@ int main(int argc, char **argv)
 		    { .name = "single", .run = single_route_attributes },
 		    { .name = "lent", .run = neli_bench_lent_route_attributes },
 		    { .name = "copied", .run = copied_route_attributes },
+		    { .name = "listed", .run = listed_route_attributes },
 		    { .name = "owned", .run = neli_bench_owned_route_attributes } } },
 	};
 
