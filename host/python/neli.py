@@ -169,6 +169,14 @@ class NetlinkError(OSError):
         return found and found.u32()
 
     @property
+    def is_passing(self):
+        """Whether a list with this error may be complete when it is requested again, as neli_host_dump has it."""
+        if self.status == LINK:
+            return self.code not in (errno.EAGAIN, errno.EINTR, errno.ECANCELED)
+        is_busy = self.status == KERNEL_ERROR and self.code in (errno.EBUSY, errno.ENOBUFS)
+        return is_busy or self.status == INTERRUPTED
+
+    @property
     def text(self):
         """The kernel's own text, or None."""
         found = _first(self.attributes, ANSWER_TEXT)
@@ -621,7 +629,8 @@ class NetlinkSocket:
         return list(self.request(msg_type, msg_flags, body))
 
     def dump(self, msg_type, body=b"", msg_flags=0, times=5):
-        """The messages of a whole list, which is requested again if it changed meanwhile, at most so many times.
+        """The messages of a whole list, which is requested again, at most so many times, if it changed meanwhile, a fault
+        of the socket lost a part, or the kernel was busy.
 
         A NetlinkError reports why it is incomplete: `status` is INTERRUPTED if it still changed.
         """
@@ -629,8 +638,7 @@ class NetlinkSocket:
             try:
                 return list(self.request(msg_type, msg_flags | NLM_F_DUMP, body))
             except NetlinkError as error:
-                is_passing = error.status == INTERRUPTED or error.code in (errno.EBUSY, errno.ENOBUFS)
-                if not left or not is_passing:
+                if not left or not error.is_passing:
                     raise
 
     def get(self):
