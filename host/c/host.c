@@ -342,20 +342,24 @@ int32_t neli_host_verdict(struct neli_host *host, size_t handle, struct neli_ver
     return neli_router_verdict(&host->router, handle, verdict);
 }
 
-/* Takes in the next datagram, or waits for one. */
-static int32_t wait_for_more(struct neli_host *host, int64_t end) {
-    int32_t code = take_in(host);
-    if (code != NELI_WAITS) return code;
-    code = link_wait(&host->link, end);
+/* Takes in the next datagram, or waits for one; `has_come` is whether it took one in that was not waited for. */
+static int32_t wait_for_more(struct neli_host *host, int64_t end, bool *has_come) {
+    int32_t code = *has_come ? link_goes_on(&host->link, end) : NELI_OK;
+    if (code == NELI_OK) {
+        code = take_in(host);
+        *has_come = code == NELI_OK;
+        if (code != NELI_WAITS) return code;
+        code = link_wait(&host->link, end);
+    }
     return code == NELI_LINK ? failed(host, host->link.fault) : code;
 }
 
 int32_t neli_host_next(struct neli_host *host, size_t handle, struct neli_message *message) {
     int64_t end = link_end_of_wait(&host->link);
-    for (;;) {
+    for (bool has_come = false;;) {
         int32_t code = read_now(host, handle, message);
         if (code != NELI_WAITS) return code;
-        code = wait_for_more(host, end);
+        code = wait_for_more(host, end, &has_come);
         if (code != NELI_OK) return code;
     }
 }
@@ -374,10 +378,10 @@ static int32_t lend_now(struct neli_host *host, size_t handle, struct neli_lent 
 int32_t neli_host_lend(struct neli_host *host, size_t handle, struct neli_lent *lent) {
     int64_t end = link_end_of_wait(&host->link);
     if (host->is_taken && host->taken == handle) return NELI_MEMORY;
-    for (;;) {
+    for (bool has_come = false;;) {
         int32_t code = lend_now(host, handle, lent);
         if (code != NELI_WAITS) return code;
-        code = wait_for_more(host, end);
+        code = wait_for_more(host, end, &has_come);
         if (code != NELI_OK) return code;
     }
 }

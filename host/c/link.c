@@ -180,6 +180,14 @@ int32_t link_wait(struct link *link, int64_t end) {
     }
 }
 
+int32_t link_goes_on(struct link *link, int64_t end) {
+    struct pollfd stop = {.fd = link->stop, .events = POLLIN};
+    if (link->wait > 0 && link_is_over(end)) errno = EAGAIN;
+    else if (poll(&stop, 1, 0) > 0) errno = ECANCELED;
+    else return NELI_OK;
+    return failed(link);
+}
+
 void link_stop(const struct link *link) {
     uint64_t one = 1;
     int before = errno;

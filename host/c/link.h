@@ -43,6 +43,10 @@ bool link_is_over(int64_t end);
 /* Waits until a datagram may have arrived: NELI_OK, or NELI_LINK if the wait has ended. */
 int32_t link_wait(struct link *link, int64_t end);
 
+/* Whether a wait goes on though datagrams come that are not waited for: NELI_OK, or NELI_LINK if it has ended. A wait for
+ * no time goes on until none is left. */
+int32_t link_goes_on(struct link *link, int64_t end);
+
 /* Ends every current wait, and each later one. Any thread may call it, and a signal's handler. */
 void link_stop(const struct link *link);
 

@@ -335,6 +335,28 @@ static void a_wait_has_an_end(void) {
     neli_host_close(host);
 }
 
+/* Whether a datagram has arrived that was not taken in. */
+static bool is_more(const struct neli_host *host) {
+    char byte;
+    return recv(host->link.fd, &byte, sizeof byte, MSG_PEEK | MSG_DONTWAIT) > 0;
+}
+
+/* A handle that nothing comes for, while thousands of datagrams for groups have arrived already. */
+static void a_wait_has_an_end_while_more_arrives(void) {
+    struct neli_host *host = route_host(true), *other = route_host(false);
+    struct neli_message message;
+    set_buffer(host, 1 << 23);
+    size_t handle = send_unanswered(host);
+    for (int i = 0; i < 3000; i++) set_loopback(other, i % 2 == 0);
+    host->link.wait = 1;
+    WANT(is_over(host, neli_host_next(host, handle, &message), EAGAIN) && is_more(host));
+    link_stop(&host->link);
+    host->link.wait = -1;
+    WANT(is_over(host, neli_host_next(host, handle, &message), ECANCELED) && is_more(host));
+    neli_host_close(other);
+    neli_host_close(host);
+}
+
 static struct neli_host *stopped;
 
 static void on_alarm(int number) {
@@ -554,6 +576,7 @@ static const struct test tests[] = {
     {"a_picture_is_right_after_a_storm", a_picture_is_right_after_a_storm},
     {"a_picture_by_a_larger_buffer", a_picture_by_a_larger_buffer},
     {"a_wait_has_an_end", a_wait_has_an_end},
+    {"a_wait_has_an_end_while_more_arrives", a_wait_has_an_end_while_more_arrives},
     {"a_wait_is_stopped", a_wait_is_stopped},
     {"what_was_not_asked_for_ends_nothing", what_was_not_asked_for_ends_nothing},
     {"an_error_with_any_code", an_error_with_any_code},

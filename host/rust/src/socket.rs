@@ -65,12 +65,20 @@ pub mod synchronous {
     #[derive(Clone, Copy, Debug)]
     pub(crate) struct Wait {
         until: Option<Instant>,
+        /// Whether it is for no time, and so for what has arrived.
+        is_instant: bool,
     }
 
     impl Wait {
         /// One that begins now, for this time, or without end.
         pub(crate) fn begin(limit: Option<Duration>) -> Self {
-            Wait { until: limit.and_then(|it| Instant::now().checked_add(it)) }
+            let is_instant = limit.is_some_and(|it| it.is_zero());
+            Wait { until: limit.and_then(|it| Instant::now().checked_add(it)), is_instant }
+        }
+
+        /// Refused where its time is over though more still arrives. One for no time takes all that has arrived.
+        pub(crate) fn goes_on(&self) -> io::Result<()> {
+            if self.is_instant { Ok(()) } else { self.left().map(|_| ()) }
         }
 
         /// How much of its time is left, none of one without end; refused where it is over.

@@ -10,11 +10,14 @@ use neli::err::{RouterError, SocketError, Unrecorded};
 use neli::link::{Arrived, Link};
 use neli::nl::NlPayload;
 use neli::recording::{PcapError, Recorder, Recording, Way};
+use neli::router::lending::LendingRouter;
 use neli::router::synchronous::{Missed, NlRouter, Notice, Verdict};
 use neli::rtnl::{Ifaddrmsg, IfaddrmsgBuilder, Ifinfomsg, IfinfomsgBuilder, RtattrBuilder};
 use neli::types::Buffer;
+use std::io::ErrorKind;
 use std::net::Ipv4Addr;
 use std::sync::Arc;
+use std::time::Duration;
 
 type Outcome = Result<(), Box<dyn std::error::Error>>;
 
@@ -255,6 +258,40 @@ impl Link for Silent {
     fn receive(&self, _room: &mut Vec<u8>) -> Result<Option<Arrived>, SocketError> {
         Ok(None)
     }
+}
+
+/// A link on which a notification for a group has always arrived.
+#[derive(Debug)]
+struct Flooded(Option<Duration>);
+
+impl Link for Flooded {
+    fn port(&self) -> u32 {
+        3
+    }
+
+    fn send(&self, _datagram: &[u8]) -> Result<(), SocketError> {
+        Ok(())
+    }
+
+    fn receive(&self, room: &mut Vec<u8>) -> Result<Option<Arrived>, SocketError> {
+        Ok(Some(Arrived::into_room(room, &NOTIFICATION, 1)))
+    }
+
+    fn limit(&self) -> Option<Duration> {
+        self.0
+    }
+}
+
+#[test]
+fn a_wait_has_an_end_while_more_arrives() -> Outcome {
+    let is_over = |it: &SocketError| matches!(it, SocketError::Io(it) if it.kind() == ErrorKind::WouldBlock);
+    let (router, _multicast) = NlRouter::over(Flooded(Some(Duration::from_millis(5))))?;
+    let mut replies = router.send::<_, Buffer, u16, Buffer>(Nlmsg::Noop, NlmF::ACK, NlPayload::Empty)?;
+    assert!(matches!(replies.next(), Some(Err(RouterError::Socket(it))) if is_over(&it)));
+    let (mut router, _multicast) = LendingRouter::over(Flooded(Some(Duration::from_millis(5))))?;
+    let handle = router.send::<_, Buffer>(Nlmsg::Noop, NlmF::ACK, NlPayload::Empty)?;
+    assert!(matches!(router.lend_next(&handle), Err(RouterError::Socket(it)) if is_over(&it)));
+    Ok(())
 }
 
 #[test]

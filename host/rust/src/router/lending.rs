@@ -139,6 +139,7 @@ impl<L: Link + 'static> LendingRouter<L> {
     /// the handle is not open.
     pub fn lend_next(&mut self, handle: &LendingHandle) -> Result<Option<LentMessage<'_>>, RouterError> {
         let wait = Wait::begin(self.link.limit());
+        let mut has_come = false;
         loop {
             match self.state.lend(handle.handle) {
                 Lend::Item => return Ok(self.state.lent()),
@@ -146,7 +147,11 @@ impl<L: Link + 'static> LendingRouter<L> {
                 Lend::End => return Ok(None),
                 Lend::Waits => {}
             }
-            if !self.state.receive()? {
+            if has_come {
+                wait.goes_on()?;
+            }
+            has_come = self.state.receive()?;
+            if !has_come {
                 self.link.wait(wait.left()?)?;
             }
         }

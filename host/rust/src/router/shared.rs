@@ -75,6 +75,7 @@ impl Shared {
     pub(super) fn next(&self, handle: usize, bell: &Arc<Condvar>) -> Result<Option<Vec<u8>>, RouterError> {
         let wait = Wait::begin(self.link.limit());
         let mut state = self.state();
+        let mut has_come = false;
         let next = loop {
             match state.read(handle) {
                 Step::Item(bytes) => break Ok(Some(bytes)),
@@ -82,8 +83,14 @@ impl Shared {
                 Step::End => break Ok(None),
                 Step::Waits => {}
             }
+            let going = if has_come { wait.goes_on() } else { Ok(()) };
+            if let Err(error) = going {
+                break Err(SocketError::from(error).into());
+            }
+            let received = state.receive();
+            has_come = matches!(received, Ok(true));
             let waited;
-            match state.receive() {
+            match received {
                 Ok(true) => continue,
                 Ok(false) => (state, waited) = self.wait(state, handle, bell, &wait),
                 Err(error) => break Err(error),
