@@ -1,10 +1,13 @@
 -- Elements that were passed, and those to come.
-use Rattle.std.proofs.Common.{get_or, ◌<◌, ◌≤◌, ◌≡◌, ◌∙◌, ℕ, zero, suc, ◌+◌, Bool, not, List, [], ◌∷◌, length, drop}
+use Rattle.std.proofs.Common.{get_or, ◌<◌, ◌≤◌, ◌≡◌, ◌∙◌, ℕ, zero, suc, ◌+◌, Bool, true, false, not, List, [], ◌∷◌, length, drop}
 use Rattle.std.proofs.Common.{take, map, Option}
 use Rattle.std.proofs.Common.{Some, None}
 use Rattle.std.proofs.Common.{cond, nat_lt, refl, sym, ap, arith, length-drop, ◌-◌}
 use Rattle.std.specs.List.{position, prefix_len}
 use Rattle.std.proofs.lemmas.List.{drop_more, drop-map, get_or-map, length-map, take_all, take-map}
+use Rattle.std.proofs.lemmas.List.Folds.{length-prefix_len}
+use Rattle.std.proofs.lemmas.List.Sums.{prefix_len-le-length}
+use Rattle.std.proofs.lemmas.Bool.Decides.{nat_tests}
 use Rattle.std.specs.Borrow.{Bor}
 use Rattle.std.specs.Option.{option_map, option_or}
 use Rattle.neli_tables.specs.declared.line.Line.{Line}
@@ -14,7 +17,7 @@ use Rattle.neli_tables.specs.Settings.{setting_seen}
 use Rattle.neli_tables.specs.Options.{first_word, word_in}
 use Rattle.neli_tables.specs.declared.tables.MessagePlace.{MessagePlace}
 use Rattle.neli_tables.specs.Families.{Lines, message_at, message_from, message_of}
-use Rattle.neli_tables.specs.FoundRows.{before, begins_section, is_case, rows_among, rows_of, sizes_of}
+use Rattle.neli_tables.specs.FoundRows.{before, begins_section, is_case, rows_among, rows_of, size_before, sizes_of}
 
 abbrev Lent : Type 0
 Lent = Setting (Bor (List ℕ))
@@ -128,6 +131,44 @@ sizes_get (line ∷ lines) (suc section) d h =
 pub length-sizes : (lines : List LineSeen) → length (sizes_of lines) ≡ length lines
 length-sizes [] = refl
 length-sizes (line ∷ lines) = ap suc (length-sizes lines)
+
+-- rows are those before the first line that is none
+abbrev row_first : LineSeen → Bool
+row_first line = not (begins_section line)
+
+among_length : (lines : List LineSeen) → length (rows_among lines) ≡ prefix_len row_first lines
+among_length lines = among (nat_lt (prefix_len row_first lines) (length lines)) refl
+  where
+    among : (b : Bool) → nat_lt (prefix_len row_first lines) (length lines) ≡ b
+        → length (before (cond b (Some (prefix_len row_first lines)) None) lines) ≡ prefix_len row_first lines
+    among true is = length-prefix_len row_first lines
+    among false is =
+        let few = prefix_len-le-length row_first lines in grind (arith, nat_tests, is, few)
+
+-- one row less follows each row
+row_less : (lines : List LineSeen) (n : ℕ) → length (rows_among lines) ≡ suc n → get_or (sizes_of lines) 0 0 ≡ n
+row_less [] n is = cc
+row_less (line ∷ lines) n is =
+    by (row_first line) refl
+  where
+    by : (b : Bool) → row_first line ≡ b → length (rows_among lines) ≡ n
+    by true it =
+        let all = rw it at (sym (among_length (line ∷ lines)) ∙ is) in
+        among_length lines ∙ omega (arith, all)
+    by false it = let none = rw it at (sym (among_length (line ∷ lines)) ∙ is) in absurd (omega (arith, none))
+
+pub size_less : (lines : List LineSeen) (place n : ℕ) → get_or (sizes_of lines) place 0 ≡ suc n
+    → get_or (sizes_of lines) (suc place) 0 ≡ n
+size_less [] place n is = cc
+size_less (line ∷ lines) zero n is = row_less lines n is
+size_less (line ∷ lines) (suc place) n is = size_less lines place n is
+
+-- the size at a place where rows follow the line before
+pub size_next : (lines : List LineSeen) (place : ℕ) → 0 < size_before lines place
+    → size_before lines place - 1 ≡ get_or (sizes_of lines) place 0
+size_next lines zero some = absurd (omega (arith, some))
+size_next lines (suc place) some =
+    sym (size_less lines place (get_or (sizes_of lines) place 0 - 1) (omega (arith, some)))
 
 -- the size of a section, at its place
 pub size_here : (lines : List LineSeen) (sizes : List ℕ) (section n : ℕ) → sizes ≡ sizes_of lines

@@ -1,5 +1,6 @@
 -- What is found among the lines of a table.
-use Rattle.std.specs.Prelude.{ℕ, ◌+◌, Bool, true, false, ◌&&◌, not, List, [], ◌∷◌, length, take, drop, position}
+use Rattle.std.specs.Prelude.{ℕ, zero, suc, ◌+◌, Bool, true, false, ◌&&◌, not, List, [], ◌∷◌, length, take, drop}
+use Rattle.std.specs.Prelude.{get_or, position}
 use Rattle.std.specs.Prelude.{Option, Some, None, is_none}
 use Rattle.std.specs.Option.{option_map, option_or}
 use Rattle.std.specs.Str.{bytes_eq}
@@ -31,6 +32,11 @@ rows_of section lines = rows_among (drop (section + 1) lines)
 abbrev pub sizes_of : List LineSeen → List ℕ
 sizes_of [] = []
 sizes_of (line ∷ lines) = length (rows_among lines) ∷ sizes_of lines
+
+-- how many follow the line before this place; none before the first
+abbrev pub size_before : List LineSeen → ℕ → ℕ
+size_before lines zero = 0
+size_before lines (suc place) = get_or (sizes_of lines) place 0
 
 -- the place of the first row that has this number in a section, or of that for all others
 abbrev pub row_in : List LineSeen → ℕ → ℕ → Option ℕ

@@ -1,7 +1,7 @@
 //! A family's table.
 
 ghost use Rattle.std.specs.Prelude.{◌≡◌, ◌+◌, ◌<◌, ◌≤◌, List, Ok, IfErr, IfOk, IfSome, length, map, position};
-ghost use Rattle.std.specs.Prelude.{option_and_then, slice_get};
+ghost use Rattle.std.specs.Prelude.{get_or, option_and_then, slice_get};
 ghost use Rattle.std.specs.Option.{option_map};
 ghost use Rattle.neli_tables.specs.Lines.{LineSeen, line_seen};
 ghost use Rattle.neli_tables.specs.Schemas.{IsWhyNot, table_in};
@@ -12,7 +12,7 @@ ghost use Rattle.neli_tables.specs.Plain.{name_seen, plain_name};
 ghost use Rattle.neli_tables.specs.Columns.{column_of, column_seen};
 ghost use Rattle.neli_tables.specs.FoundRows.{begins_section, case_in, group_in, is_case, message_for};
 ghost use Rattle.neli_tables.specs.FoundRows.{message_in};
-ghost use Rattle.neli_tables.specs.FoundRows.{row_in, rows_among, rows_of, sizes_of};
+ghost use Rattle.neli_tables.specs.FoundRows.{row_in, rows_among, rows_of, size_before, sizes_of};
 
 use crate::column::{Column, all_columns};
 use crate::firsts::Firsts;
@@ -288,13 +288,29 @@ fn rows_of<'s, 't>(lines: &'s [Line<'t>], section: usize) -> &'s [Line<'t>]
     }
 }
 
+/// How many rows follow the line at this place, where so many follow the line before it: one less, if any do, so that
+/// the rows of a section are looked at once.
+fn size_at(lines: &[Line<'_>], place: usize, before: usize) -> usize
+    requires within { place < length lines.now }
+    requires before { before ≡ size_before (map line_seen lines.now) place }
+    ensures { result ≡ get_or (sizes_of (map line_seen lines.now)) place 0 }
+{
+    if before > 0 {
+        before - 1
+    } else {
+        rows_of(lines, place).len()
+    }
+}
+
 /// How many rows follow each of these lines, in order. Refused where memory runs out.
 fn all_sizes(alloc: Global, lines: &[Line<'_>]) -> Result<Vec<usize>, AllocError>
     ensures { IfOk result (λ sizes. sizes.items ≡ sizes_of (map line_seen lines.now)) }
 {
     let mut sizes = Vec::with_capacity(alloc, lines.len())?;
-    for section in 0..lines.len() {
-        sizes.push(rows_of(lines, section).len())?;
+    let mut size = 0;
+    for place in 0..lines.len() {
+        size = size_at(lines, place, size);
+        sizes.push(size)?;
     }
     Ok(sizes)
 }
