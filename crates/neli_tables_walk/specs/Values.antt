@@ -73,7 +73,8 @@ abbrev pub options_digits : List ℕ → Option Options → Option Number
 options_digits bytes None = None
 options_digits bytes (Some o) = digits_by o bytes
 
--- the number that a payload is by the line at a place, where nothing but its decimal digits is printed
+-- the number that a payload is by the line at a place, where only its decimal digits are printed; of a kind that most
+-- numbers have
 abbrev pub payload_digits : Lines → ℕ → List ℕ → Option Number
 payload_digits table place bytes = options_digits bytes (line_options table place)
 

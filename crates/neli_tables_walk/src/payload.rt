@@ -30,7 +30,8 @@ pub struct Payload<'b, 'w, 't> {
 }
 
 impl Payload<'_, '_, '_> {
-    /// The number that it is, where nothing but the decimal digits of one is printed.
+    /// The number that it is, where only its decimal digits are printed: of the kinds u8, u16, u32, u64
+    /// and s32, which most numbers have; of any other, `None`.
     #[inline(always)]
     pub fn digits(&self) -> Option<Number>
         ensures breach { IsSome result
