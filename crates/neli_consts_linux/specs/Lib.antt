@@ -20,7 +20,6 @@ pub mod NhaGroupStatsEntry
 pub mod NhaResBucket
 pub mod NhaResGroup
 pub mod NlPolicyTypeAttr
-pub mod NlmsgerrAttr
 pub mod Rtax
 pub mod Rtnlgrp
 pub mod TcaStats

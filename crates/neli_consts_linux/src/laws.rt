@@ -6,7 +6,7 @@ use crate::{
     CtrlAttr, CtrlAttrOp, CtrlAttrPolicy, CtrlCmd, IflaBond, IflaBondAdInfo, IflaBondSlave, IflaBr,
     IflaBrport, IflaMacvlan, IflaStats, IflaVf, IflaVxlan, Mdba, NetlinkAttributeType,
     NexthopGrpType, Nha, NhaGroupStats, NhaGroupStatsEntry, NhaResBucket, NhaResGroup,
-    NlPolicyTypeAttr, NlmsgerrAttr, Rtax, Rtnlgrp, TcaStats,
+    NlPolicyTypeAttr, Rtax, Rtnlgrp, TcaStats,
 };
 
 /// `==` is true exactly where the two values are the same: the same variant, with the same number
@@ -34,7 +34,6 @@ pub fn equality()
     ensures ctrl_attr_policy { IsEquality ⟦<CtrlAttrPolicy as PartialEq>⟧.eq }
     ensures nl_policy_type_attr { IsEquality ⟦<NlPolicyTypeAttr as PartialEq>⟧.eq }
     ensures netlink_attribute_type { IsEquality ⟦<NetlinkAttributeType as PartialEq>⟧.eq }
-    ensures nlmsgerr_attr { IsEquality ⟦<NlmsgerrAttr as PartialEq>⟧.eq }
     ensures ifla_stats { IsEquality ⟦<IflaStats as PartialEq>⟧.eq }
     ensures tca_stats { IsEquality ⟦<TcaStats as PartialEq>⟧.eq }
     ensures mdba { IsEquality ⟦<Mdba as PartialEq>⟧.eq }

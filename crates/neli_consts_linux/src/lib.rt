@@ -9,8 +9,8 @@
 //! one of commands [`neli_consts::Cmd`], so attributes are looked up by it.
 //!
 //! The kernel's header and the prefix of its names stand with each table; a variant is spelled like the rest of the
-//! kernel's name. The tables are those of Linux 6.1 with later names; an older kernel has fewer. [`CtrlCmd`],
-//! [`CtrlAttr`] and [`NlmsgerrAttr`] are tables of the Rust crate with the names that it lacks.
+//! kernel's name. The tables are those of Linux 6.1 with later names; an older kernel has fewer. [`CtrlCmd`] and
+//! [`CtrlAttr`] are tables of the Rust crate with the names that it lacks.
 //!
 //! - `acknowledgements`: errors and acknowledgements
 //! - `bonds`: bonds and the links in them
@@ -46,7 +46,7 @@ mod statistics;
 mod virtual_functions;
 mod vxlans;
 
-pub use acknowledgements::NlmsgerrAttr;
+pub use acknowledgements::{NLMSGERR_ATTR_MISS_NEST, NLMSGERR_ATTR_MISS_TYPE};
 pub use bonds::{IflaBond, IflaBondAdInfo, IflaBondSlave};
 pub use bridges::{IflaBr, IflaBrport};
 pub use controller::{CtrlAttr, CtrlAttrOp, CtrlAttrPolicy, CtrlCmd};

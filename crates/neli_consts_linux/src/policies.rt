@@ -14,7 +14,7 @@ use neli_wire::Constant;
 
 /// Attributes of a policy for one attribute: `NL_POLICY_TYPE_ATTR_*` of `linux/netlink.h`. They
 /// stand in [`CtrlAttr::Policy`](crate::CtrlAttr::Policy) and in
-/// [`NlmsgerrAttr::Policy`](crate::NlmsgerrAttr::Policy).
+/// [`NlmsgerrAttr::Policy`](neli_consts::NlmsgerrAttr::Policy).
 #[derive(Clone, Copy, Debug, PartialEq, Eq)]
 pub enum NlPolicyTypeAttr {
     /// No attribute: 0 stands for none.

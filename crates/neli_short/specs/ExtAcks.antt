@@ -4,20 +4,25 @@ use Rattle.std.specs.Option.{option_map}
 use Rattle.byteorder.specs.Endian.{little_bytes}
 use Rattle.neli_wire.specs.Place.{Place}
 use Rattle.neli_wire.specs.Writing.{Wire}
-use Rattle.neli_consts.specs.declared.nlmsg.NlmsgerrAttr.{NlmsgerrAttr as Kind}
-use Rattle.neli_consts.specs.NlmsgerrAttr.{nlmsgerr_attr_number, nlmsgerr_attr_of}
-use Rattle.neli_consts_linux.specs.declared.acknowledgements.NlmsgerrAttr.{NlmsgerrAttr}
-use Rattle.neli_consts_linux.specs.declared.acknowledgements.NlmsgerrAttr.TheVariants.{Msg, Offs, MissType, MissNest}
-use Rattle.neli_consts_linux.specs.NlmsgerrAttr.{nlmsgerr_attr_number as number_of}
+use Rattle.neli_consts.specs.declared.nlmsg.NlmsgerrAttr.{NlmsgerrAttr}
+use Rattle.neli_consts.specs.declared.nlmsg.NlmsgerrAttr.TheVariants.{Msg, Offset, UnrecognizedConst}
+use Rattle.neli_consts.specs.NlmsgerrAttr.{nlmsgerr_attr_number}
 use Rattle.neli_attr.specs.Nlattr.{with_length}
 use Rattle.neli_reader.specs.Answers.{Attributes}
 use Rattle.neli_short.specs.Made.{field}
 use Rattle.neli_short.specs.declared.ext_ack_builder.ExtAckBuilder.{ExtAckBuilder}
 
+-- NLMSGERR_ATTR_MISS_TYPE and NLMSGERR_ATTR_MISS_NEST, which have no variant
+abbrev pub miss_type : NlmsgerrAttr
+miss_type = UnrecognizedConst 5
+
+abbrev pub miss_nest : NlmsgerrAttr
+miss_nest = UnrecognizedConst 6
+
 -- the payload of the first attribute of a kind
 abbrev pub payload_in : NlmsgerrAttr → Attributes → Option (List ℕ)
 payload_in kind attrs = option_map (λ a. a.nla_payload)
-    (find (λ a. nat_eq (nlmsgerr_attr_number a.nla_type.nla_type) (number_of kind)) attrs)
+    (find (λ a. nat_eq (nlmsgerr_attr_number a.nla_type.nla_type) (nlmsgerr_attr_number kind)) attrs)
 
 -- a walk from the first of these bytes on
 abbrev pub from_start : List ℕ → Place
@@ -25,14 +30,10 @@ from_start bytes = record { before = []; rest = bytes }
 
 -- ---- what a builder makes
 
--- the kind with this number, as the attributes of an answer have it
-abbrev pub kind_of : NlmsgerrAttr → Kind
-kind_of kind = nlmsgerr_attr_of (number_of kind)
-
 -- the attribute of bytes that were given, if any were
 abbrev pub given : NlmsgerrAttr → Option (List ℕ) → Attributes
 given kind None = []
-given kind (Some bytes) = with_length (field false (kind_of kind)) bytes ∷ []
+given kind (Some bytes) = with_length (field false kind) bytes ∷ []
 
 -- a text with its zero; none where it was not given
 abbrev pub text_bytes : Option (List ℕ) → Option (List ℕ)
@@ -45,8 +46,8 @@ number_bytes = option_map (little_bytes 4)
 -- the attributes of what was given, in the order of their numbers
 abbrev pub built_ext_ack : ExtAckBuilder → Attributes
 built_ext_ack b =
-    ((given Msg (text_bytes (option_map (λ t. t.now) b.text)) ++ given Offs (number_bytes b.offset))
-    ++ given MissType (number_bytes b.missing_type)) ++ given MissNest (number_bytes b.missing_nest)
+    ((given Msg (text_bytes (option_map (λ t. t.now) b.text)) ++ given Offset (number_bytes b.offset))
+    ++ given miss_type (number_bytes b.missing_type)) ++ given miss_nest (number_bytes b.missing_nest)
 
 -- the wire bytes of what was given, of which none is refused where there are none
 abbrev pub given_wire : Option (List ℕ) → Wire

@@ -3,17 +3,16 @@
 ghost use Rattle.std.specs.Prelude.{◌≡◌, find, nat_eq};
 ghost use Rattle.std.specs.Option.{option_and_then, option_copied, option_map};
 ghost use Rattle.neli_consts.specs.NlmsgerrAttr.{nlmsgerr_attr_number};
-ghost use Rattle.neli_consts_linux.specs.NlmsgerrAttr.{nlmsgerr_attr_number as number_of};
-ghost use Rattle.neli_consts_linux.specs.declared.acknowledgements.NlmsgerrAttr.TheVariants as kind;
+ghost use Rattle.neli_consts.specs.declared.nlmsg.NlmsgerrAttr.TheVariants as kind;
 ghost use Rattle.neli_reader.specs.Explained.{place_in, words_in};
 ghost use Rattle.neli_reader.specs.Answers.{Attributes};
-ghost use Rattle.neli_short.specs.ExtAcks.{from_start, payload_in};
+ghost use Rattle.neli_short.specs.ExtAcks.{from_start, miss_nest, miss_type, payload_in};
 
 use crate::found::text_of;
 use byteorder::{ByteOrder, LittleEndian};
 use neli_attr::{Buffer, GenlBuffer, Nlattr};
 use neli_consts::NlmsgerrAttr;
-use neli_consts_linux::{NlPolicyTypeAttr, NlmsgerrAttr as Said};
+use neli_consts_linux::{NLMSGERR_ATTR_MISS_NEST, NLMSGERR_ATTR_MISS_TYPE, NlPolicyTypeAttr};
 use neli_lent::LentNlattrs;
 use neli_reader::Nlmsgerr;
 
@@ -32,36 +31,36 @@ pub trait ExtAck {
         ensures { option_map (λ t. t.now) result
             ≡ option_and_then words_in (payload_in kind.Msg (said self.now)) }
     {
-        text_in(payload_of(self.said(), Said::Msg)?)
+        text_in(payload_of(self.said(), NlmsgerrAttr::Msg)?)
     }
 
     /// Where in the request it was, in bytes from the request's header (`NLMSGERR_ATTR_OFFS`).
     fn offset(&self) -> Option<u32>
-        ensures { result ≡ option_and_then place_in (payload_in kind.Offs (said self.now)) }
+        ensures { result ≡ option_and_then place_in (payload_in kind.Offset (said self.now)) }
     {
-        number_in(payload_of(self.said(), Said::Offs)?)
+        number_in(payload_of(self.said(), NlmsgerrAttr::Offset)?)
     }
 
     /// The number of an attribute that is missing (`NLMSGERR_ATTR_MISS_TYPE`).
     fn missing_type(&self) -> Option<u32>
-        ensures { result ≡ option_and_then place_in (payload_in kind.MissType (said self.now)) }
+        ensures { result ≡ option_and_then place_in (payload_in miss_type (said self.now)) }
     {
-        number_in(payload_of(self.said(), Said::MissType)?)
+        number_in(payload_of(self.said(), NLMSGERR_ATTR_MISS_TYPE)?)
     }
 
     /// Where in the request the nest stands in which that attribute is missing, in bytes from the request's header
     /// (`NLMSGERR_ATTR_MISS_NEST`); none where it is missing in the message itself.
     fn missing_nest(&self) -> Option<u32>
-        ensures { result ≡ option_and_then place_in (payload_in kind.MissNest (said self.now)) }
+        ensures { result ≡ option_and_then place_in (payload_in miss_nest (said self.now)) }
     {
-        number_in(payload_of(self.said(), Said::MissNest)?)
+        number_in(payload_of(self.said(), NLMSGERR_ATTR_MISS_NEST)?)
     }
 
     /// What the kernel would have taken there (`NLMSGERR_ATTR_POLICY`): the attributes of a policy, lent.
     fn policy(&self) -> Option<LentNlattrs<'_, NlPolicyTypeAttr>>
         ensures { result ≡ option_map from_start (payload_in kind.Policy (said self.now)) }
     {
-        Some(LentNlattrs::new(payload_of(self.said(), Said::Policy)?))
+        Some(LentNlattrs::new(payload_of(self.said(), NlmsgerrAttr::Policy)?))
     }
 }
 
@@ -95,7 +94,7 @@ fn first_of(
 }
 
 /// The payload of the first attribute of this kind.
-fn payload_of(attrs: &GenlBuffer<NlmsgerrAttr, Buffer>, kind: Said) -> Option<&[u8]>
+fn payload_of(attrs: &GenlBuffer<NlmsgerrAttr, Buffer>, kind: NlmsgerrAttr) -> Option<&[u8]>
     ensures { option_copied result ≡ payload_in kind attrs.now }
 {
     Some(

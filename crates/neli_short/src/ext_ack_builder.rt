@@ -2,14 +2,14 @@
 
 ghost use Rattle.std.specs.Prelude.{◌≡◌, ◌++◌, Some, None, OnOk, IfErr, IfOk};
 ghost use Rattle.std.specs.Option.{option_map};
-ghost use Rattle.neli_consts_linux.specs.declared.acknowledgements.NlmsgerrAttr.TheVariants as kind;
-ghost use Rattle.neli_short.specs.ExtAcks.{built_ext_ack, given, given_wire, kind_of, number_bytes, text_bytes};
+ghost use Rattle.neli_consts.specs.declared.nlmsg.NlmsgerrAttr.TheVariants as kind;
+ghost use Rattle.neli_short.specs.ExtAcks.{built_ext_ack, given, given_wire, number_bytes, text_bytes};
 ghost use Rattle.neli_short.specs.Made.{RefusesMade};
 
 use crate::Put;
 use neli_attr::{Buffer, GenlBuffer};
 use neli_consts::NlmsgerrAttr;
-use neli_consts_linux::NlmsgerrAttr as Said;
+use neli_consts_linux::{NLMSGERR_ATTR_MISS_NEST, NLMSGERR_ATTR_MISS_TYPE};
 use neli_wire::SerError;
 use std::alloc::Global;
 
@@ -83,18 +83,21 @@ impl<'a> ExtAckBuilder<'a> {
     {
         let mut attrs = GenlBuffer::new(alloc);
         put_text(alloc, &mut attrs, self.text)?;
-        put_number(alloc, &mut attrs, Said::Offs, self.offset)?;
-        put_number(alloc, &mut attrs, Said::MissType, self.missing_type)?;
-        put_number(alloc, &mut attrs, Said::MissNest, self.missing_nest)?;
+        put_number(alloc, &mut attrs, NlmsgerrAttr::Offset, self.offset)?;
+        put_number(
+            alloc,
+            &mut attrs,
+            NLMSGERR_ATTR_MISS_TYPE,
+            self.missing_type,
+        )?;
+        put_number(
+            alloc,
+            &mut attrs,
+            NLMSGERR_ATTR_MISS_NEST,
+            self.missing_nest,
+        )?;
         Ok(attrs)
     }
-}
-
-/// The kind with this number, as the attributes of an answer have it.
-fn kind_of(kind: Said) -> NlmsgerrAttr
-    ensures { result ≡ kind_of kind }
-{
-    NlmsgerrAttr::from(u16::from(kind))
 }
 
 /// Appends the text, where one was given.
@@ -109,7 +112,7 @@ fn put_text(
         (RefusesMade (given_wire (text_bytes (option_map (λ t. t.now) text.entry)))) }
 {
     match text {
-        Some(text) => attrs.put(alloc, kind_of(Said::Msg), text),
+        Some(text) => attrs.put(alloc, NlmsgerrAttr::Msg, text),
         None => Ok(()),
     }
 }
@@ -118,14 +121,14 @@ fn put_text(
 fn put_number(
     alloc: Global,
     attrs: &mut GenlBuffer<NlmsgerrAttr, Buffer>,
-    kind: Said,
+    kind: NlmsgerrAttr,
     number: Option<u32>,
 ) -> Result<(), SerError>
     ensures put { OnOk result (attrs.new ≡ attrs.old ++ given kind (number_bytes number)) }
     ensures refused { IfErr result (λ e. e ≡ SerError.Memory) }
 {
     match number {
-        Some(number) => attrs.put(alloc, kind_of(kind), number),
+        Some(number) => attrs.put(alloc, kind, number),
         None => Ok(()),
     }
 }

@@ -5,7 +5,7 @@ use neli_consts_linux::{
     CtrlAttr, CtrlAttrOp, CtrlAttrPolicy, CtrlCmd, IflaBond, IflaBondAdInfo, IflaBondSlave, IflaBr,
     IflaBrport, IflaMacvlan, IflaStats, IflaVf, IflaVxlan, Mdba, NetlinkAttributeType,
     NexthopGrpType, Nha, NhaGroupStats, NhaGroupStatsEntry, NhaResBucket, NhaResGroup,
-    NlPolicyTypeAttr, NlmsgerrAttr, Rtax, Rtnlgrp, TcaStats,
+    NlPolicyTypeAttr, Rtax, Rtnlgrp, TcaStats,
 };
 use std::io::{self, Write};
 
@@ -160,11 +160,5 @@ fn write_policies(out: &mut impl Write) -> io::Result<()> {
         "linux::NetlinkAttributeType",
         0..=0xffff,
         NetlinkAttributeType::is_unrecognized,
-    )?;
-    write_rows(
-        out,
-        "linux::NlmsgerrAttr",
-        0..=u16::MAX,
-        NlmsgerrAttr::is_unrecognized,
     )
 }

@@ -5,8 +5,8 @@ use neli::consts::MAX_NL_LENGTH;
 use neli::consts::genl::{Cmd, CtrlCmd, Index, NlAttrType};
 use neli::consts::linux::{
     self, CtrlAttr, CtrlAttrOp, CtrlAttrPolicy, IflaBond, IflaBondAdInfo, IflaBondSlave, IflaBr,
-    IflaBrport, IflaMacvlan, IflaVf, IflaVxlan, Nha, NhaGroupStats, NhaGroupStatsEntry,
-    NhaResBucket, NhaResGroup, NlPolicyTypeAttr, NlmsgerrAttr, Rtax,
+    IflaBrport, IflaMacvlan, IflaVf, IflaVxlan, NLMSGERR_ATTR_MISS_NEST, NLMSGERR_ATTR_MISS_TYPE,
+    Nha, NhaGroupStats, NhaGroupStatsEntry, NhaResBucket, NhaResGroup, NlPolicyTypeAttr, Rtax,
 };
 use neli::consts::netfilter::{LogCfgCmd, LogCfgCmdWrapper, LogCmd, NfLogAttr};
 use neli::consts::nl::{GenlId, NlType, NlTypeWrapper};
@@ -76,7 +76,8 @@ fn attributes_of_newer_kernels(rt: HostRuntime) {
     check_attribute(&rt, CtrlAttrOp::Flags, 2);
     check_attribute(&rt, CtrlAttrPolicy::Dump, 2);
     check_attribute(&rt, NlPolicyTypeAttr::Mask, 12);
-    check_attribute(&rt, NlmsgerrAttr::MissNest, 6);
+    check_attribute(&rt, NLMSGERR_ATTR_MISS_TYPE, 5);
+    check_attribute(&rt, NLMSGERR_ATTR_MISS_NEST, 6);
 }
 
 #[test]

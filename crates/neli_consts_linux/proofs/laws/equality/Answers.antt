@@ -44,8 +44,6 @@ use Rattle.neli_consts_linux.specs.contracts.policies.NlPolicyTypeAttr.{enum as 
 use Rattle.neli_consts_linux.specs.contracts.policies.NlPolicyTypeAttrEq.TheImpl.Laws.{laws-law as nl_policy_type_attr-laws}
 use Rattle.neli_consts_linux.specs.contracts.policies.NetlinkAttributeType.{enum as netlink_attribute_type}
 use Rattle.neli_consts_linux.specs.contracts.policies.NetlinkAttributeTypeEq.TheImpl.Laws.{laws-law as netlink_attribute_type-laws}
-use Rattle.neli_consts_linux.specs.contracts.acknowledgements.NlmsgerrAttr.{enum as nlmsgerr_attr}
-use Rattle.neli_consts_linux.specs.contracts.acknowledgements.NlmsgerrAttrEq.TheImpl.Laws.{laws-law as nlmsgerr_attr-laws}
 use Rattle.neli_consts_linux.specs.contracts.statistics.IflaStats.{enum as ifla_stats}
 use Rattle.neli_consts_linux.specs.contracts.statistics.IflaStatsEq.TheImpl.Laws.{laws-law as ifla_stats-laws}
 use Rattle.neli_consts_linux.specs.contracts.statistics.TcaStats.{enum as tca_stats}
@@ -131,10 +129,6 @@ returns-clause-nl_policy_type_attr c = derived-equality nl_policy_type_attr _ nl
 
 pub returns-clause-netlink_attribute_type : goal.returns-clause-netlink_attribute_type
 returns-clause-netlink_attribute_type c = derived-equality netlink_attribute_type _ netlink_attribute_type-laws
-    (λ x y e i. (eqb-true x.0 y.0 e i, tt), tt)
-
-pub returns-clause-nlmsgerr_attr : goal.returns-clause-nlmsgerr_attr
-returns-clause-nlmsgerr_attr c = derived-equality nlmsgerr_attr _ nlmsgerr_attr-laws
     (λ x y e i. (eqb-true x.0 y.0 e i, tt), tt)
 
 pub returns-clause-ifla_stats : goal.returns-clause-ifla_stats
