@@ -68,7 +68,7 @@ impl<const LIMIT: usize> Deliveries for Limited<LIMIT> {
             ≡ option_map (λ ds. ds ++ datagram_share self.old.log.port
             (λ q. is_some (pending_of self.old.log (Some q))) w
             (cut_of untyped_layout bytes.now) groups.now) (pending_of self.old.log w)) }
-        ensures err { OnErr result ((w : Option ℕ)
+        ensures unchanged { OnErr result ((w : Option ℕ)
             → pending_of self.new.log w ≡ pending_of self.old.log w) }
         ensures empty { bytes.now ≡ [] → IsOk result }
         ensures limit { StaysWithin LIMIT (byte_count self.old.log) (byte_count self.new.log) }

@@ -40,8 +40,8 @@ abbrev pub nlattr_wire : {T P : Type 0} → (T → ℕ) → (P → Wire) → Nla
 nlattr_wire type_number wire a = attribute_wire a.nla_len (number_of type_number a.nla_type) (wire a.nla_payload)
 
 -- an attribute with a payload of bytes, as read
-abbrev pub nlattr_says : {T : Type 0} → Nlattr T (List ℕ) → Attr (AttrType T) (List ℕ)
-nlattr_says a = attr a.nla_len a.nla_type a.nla_payload
+abbrev pub nlattr_view : {T : Type 0} → Nlattr T (List ℕ) → Attr (AttrType T) (List ℕ)
+nlattr_view a = attr a.nla_len a.nla_type a.nla_payload
 
 -- the same attribute with the meaning of its type's number
 abbrev pub typed_attribute : {T : Type 0} → (ℕ → T) → Nlattr ℕ (List ℕ) → Nlattr T (List ℕ)

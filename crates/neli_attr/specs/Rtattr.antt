@@ -28,5 +28,5 @@ abbrev pub rtattr_wire : {T P : Type 0} → (T → ℕ) → (P → Wire) → Rta
 rtattr_wire type_number wire a = attribute_wire a.rta_len (type_number a.rta_type) (wire a.rta_payload)
 
 -- an attribute with a payload of bytes, as read
-abbrev pub rtattr_says : {T : Type 0} → Rtattr T (List ℕ) → Attr T (List ℕ)
-rtattr_says a = attr a.rta_len a.rta_type a.rta_payload
+abbrev pub rtattr_view : {T : Type 0} → Rtattr T (List ℕ) → Attr T (List ℕ)
+rtattr_view a = attr a.rta_len a.rta_type a.rta_payload

@@ -13,7 +13,7 @@ ghost use Rattle.neli_attr.specs.AttrType.{AttrType as Field};
 ghost use Rattle.neli_attr.specs.Attributes.{Attr, attr, attribute, attributes_in, nested_payload};
 ghost use Rattle.neli_attr.specs.Builders.{IsWhyNot};
 ghost use Rattle.neli_attr.specs.laws.Attributes.{attribute-local, attribute-no_memory};
-ghost use Rattle.neli_attr.specs.Nlattr.{built_nlattr, nlattr_says, nlattr_wire, with_bytes};
+ghost use Rattle.neli_attr.specs.Nlattr.{built_nlattr, nlattr_view, nlattr_wire, with_bytes};
 ghost use Rattle.neli_attr.specs.Nlattr.{nested_with, nlattr_eq, typed_attribute};
 ghost use Rattle.neli_attr.specs.laws.Nlattr.{nlattr_wire-length, nlattr_wire-no_memory, nlattr_wire-zeros};
 ghost use Rattle.neli_attr.specs.laws.Nlattr.{nlattr_equiv, nlattr_per};
@@ -102,7 +102,7 @@ impl<T: NlAttrType> Nlattr<T, Buffer> {
         alloc: Global,
     ) -> Result<GenlAttrHandle<'_, R>, DeError>
         ensures value { let attrs = attributes_in (type_of R.wire_value) self.now.nla_payload in
-            IfOk result (λ h. attrs ≡ Ok (map nlattr_says (attrs_in h))) }
+            IfOk result (λ h. attrs ≡ Ok (map nlattr_view (attrs_in h))) }
         ensures refused { let attrs = attributes_in (type_of R.wire_value) self.now.nla_payload in
             IfErr result (Refuses attrs (0 < length self.now.nla_payload)) }
     {

@@ -11,7 +11,7 @@ ghost use Rattle.neli_attr.specs.Payloads.{RefusesAs};
 ghost use Rattle.neli_attr.specs.Attributes.{Attr, attr, attribute, attributes_in, nested_payload};
 ghost use Rattle.neli_attr.specs.Builders.{IsWhyNot};
 ghost use Rattle.neli_attr.specs.laws.Attributes.{attribute-local, attribute-no_memory};
-ghost use Rattle.neli_attr.specs.Rtattr.{built_rtattr, rtattr_says, rtattr_wire, with_bytes};
+ghost use Rattle.neli_attr.specs.Rtattr.{built_rtattr, rtattr_view, rtattr_wire, with_bytes};
 ghost use Rattle.neli_attr.specs.laws.Rtattr.{rtattr_wire-length, rtattr_wire-no_memory, rtattr_wire-zeros};
 
 use crate::{Attribute, Buffer, BuildError, of};
@@ -95,7 +95,7 @@ impl<T: RtaType> Rtattr<T, Buffer> {
     /// Refused as the list refuses the payload.
     pub fn get_attr_handle<R: RtaType>(&self, alloc: Global) -> Result<RtAttrHandle<'_, R>, DeError>
         ensures value { let attrs = attributes_in R.wire_value self.now.rta_payload in
-            IfOk result (λ h. attrs ≡ Ok (map rtattr_says (attrs_in h))) }
+            IfOk result (λ h. attrs ≡ Ok (map rtattr_view (attrs_in h))) }
         ensures refused { let attrs = attributes_in R.wire_value self.now.rta_payload in
             IfErr result (Refuses attrs (0 < length self.now.rta_payload)) }
     {

@@ -61,7 +61,7 @@ impl Buffer {
     /// Refused only if memory runs out, and never where there are no bytes; then the buffer is as it was.
     pub fn extend_from_slice(&mut self, bytes: &[u8]) -> Result<(), NoMemory>
         ensures ok { OnOk result (self.new ≡ self.old ++ bytes.now) }
-        ensures err { OnErr result (self.new ≡ self.old) }
+        ensures unchanged { OnErr result (self.new ≡ self.old) }
         ensures memory { OnErr result (0 < length bytes.now) }
     {
         if !bytes.is_empty() {

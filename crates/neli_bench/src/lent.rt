@@ -4,7 +4,7 @@
 
 ghost use Rattle.std.specs.Prelude.{◌≡◌, IfSome, IsSome, IsTrue, false};
 ghost use Rattle.neli_lent.specs.Attributes.{attributes_at};
-ghost use Rattle.neli_lent.specs.Messages.{message_said};
+ghost use Rattle.neli_lent.specs.Messages.{message_view};
 ghost use Rattle.neli_bench.specs.Walks.{IsSum, as_u64, lent_adds, lent_cut, lent_stated_length, type_and_length};
 
 use crate::plus;
@@ -30,7 +30,7 @@ fn attributes_add(mut attributes: LentAttrs<'_, u16>) -> Option<u64>
 /// The sum over the attributes after a message's body `B`.
 fn message_adds<'b, B: Header>(message: &LentMessage<'b, u16>) -> Option<u64>
     ensures { IfSome result
-        (λ n. n ≡ as_u64 (lent_adds B.header (message_said message.now))) }
+        (λ n. n ≡ as_u64 (lent_adds B.header (message_view message.now))) }
 {
     let Ok(attributes) = message.get_attrs::<B, u16>() else {
         return None;

@@ -5,7 +5,7 @@ use Rattle.neli_wire.specs.Writing.{Wire, wire_all}
 use Rattle.neli_wire.specs.Sizes.{align}
 use Rattle.neli_attr.specs.Attributes.{Attr, attributes_in}
 use Rattle.neli_attr.specs.declared.rtattr.Rtattr.{Rtattr}
-use Rattle.neli_attr.specs.Rtattr.{rtattr_says, rtattr_wire}
+use Rattle.neli_attr.specs.Rtattr.{rtattr_view, rtattr_wire}
 
 -- a list of attributes as contracts see it
 abbrev pub Attrs : Type 0 → Type 0
@@ -25,7 +25,7 @@ AttributesRead T = List (Attr T (List ℕ))
 
 -- a list of attributes, as read
 abbrev pub attrs_view : {T : Type 0} → Attrs T → AttributesRead T
-attrs_view = map rtattr_says
+attrs_view = map rtattr_view
 
 -- the attributes listed in a whole byte list
 abbrev pub attrs_of : {T : Type 0} → (ℕ → T) → List ℕ → Result (AttributesRead T) DeError

@@ -12,7 +12,7 @@ use Rattle.neli_reader.specs.SocketError.{SocketError}
 use Rattle.neli_reader.specs.SocketError.TheVariants as socket
 use Rattle.neli_reader.specs.NlPayload.{NlPayload}
 use Rattle.neli_reader.specs.NlPayload.TheVariants as payload
-use Rattle.neli_lent.specs.Messages.{message_said}
+use Rattle.neli_lent.specs.Messages.{message_view}
 use Rattle.neli_deliveries.specs.declared.delivery.Delivery.{Delivery}
 use Rattle.neli_deliveries.specs.Readings.{Item}
 use Rattle.neli_log.specs.Lending.{Lends}
@@ -41,7 +41,7 @@ use Rattle.neli_c.specs.Slots.{handle_at}
 
 -- what a reply says of the messages that come next, us before it and vs after it
 abbrev pub Next : LentReply → List Message → List Message → Type 0
-Next (reply.Item (Ok m)) us vs = (u : Message) × Lends (message_said m) u × (us ≡ u ∷ vs)
+Next (reply.Item (Ok m)) us vs = (u : Message) × Lends (message_view m) u × (us ≡ u ∷ vs)
 Next r us vs = us ≡ []
 
 -- an error in the place of a message
@@ -87,7 +87,7 @@ next a b r lends rest =
 
 -- its message, if it is one
 pub message-next : (r : LentReply) (us vs : List Message) → Next r us vs
-    → IfSome (message_in r) (λ m. (u : Message) × Lends (message_said m) u × (us ≡ u ∷ vs))
+    → IfSome (message_in r) (λ m. (u : Message) × Lends (message_view m) u × (us ≡ u ∷ vs))
 message-next (reply.Item (Ok m)) us vs next = next
 message-next (reply.Item (Err e)) us vs next = tt
 message-next reply.End us vs next = tt
@@ -341,7 +341,7 @@ lent-as : (code : ℤ) (i : Item ℕ (List ℕ)) (l : LentItem) (later us : List
     → (code ≡ item) × IsLentAs u new
 lent-as code i (Ok m) later us u old new some is code_is stored =
     let same : is.0 ≡ u = (let f = sym is.2 ∙ (first-ahead i later us u some).0 in cc) in
-    (code_is, (m, subst (λ (v : Message). Lends (message_said m) v) same is.1, stored))
+    (code_is, (m, subst (λ (v : Message). Lends (message_view m) v) same is.1, stored))
 lent-as code i (Err e) later us u old new some is code_is stored =
     absurd (let f = sym (from-error e i later is) ∙ some in cc)
 

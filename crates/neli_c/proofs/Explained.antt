@@ -4,7 +4,7 @@ use Rattle.std.specs.Option.{option_map}
 use Rattle.neli_tables_walk.specs.Bodies.{BodySeen}
 use Rattle.neli_tables_check.specs.declared.place.Place.{Place}
 use Rattle.neli_tables_check.specs.Refusals.{place_text, refusal_text}
-use Rattle.neli_c.specs.Named.{at_text, place_seen}
+use Rattle.neli_c.specs.Named.{at_text, place_view}
 use Rattle.neli_c.specs.Printed.{IsPrinted, PrintsMessage, PrintsText}
 
 -- of a payload that lies there
@@ -27,7 +27,7 @@ explained (Some p) f body line code old new size size' same prints =
     subst (λ (b : BodySeen). IsPrinted code (line b) old new size size') (some-is body (f p) same) prints
 
 -- the path to a place is that of its table and its steps
-pub text-at : (o : Option Place) → option_map place_text o ≡ option_map at_text (place_seen o)
+pub text-at : (o : Option Place) → option_map place_text o ≡ option_map at_text (place_view o)
 text-at None = refl
 text-at (Some place) = refl
 

@@ -16,8 +16,8 @@ use Rattle.neli_c.specs.declared.lent.NeliWalk.{NeliWalk}
 use Rattle.neli_c.specs.declared.lent.NeliMessage.{NeliMessage}
 use Rattle.neli_c.specs.declared.lent.NeliAttribute.{NeliAttribute}
 use Rattle.neli_c.specs.Walks.{GivesAttribute, GivesMessage, IsInParts, attribute_layout, bytes_from}
-use Rattle.neli_c.specs.Walks.{head_shown}
-use Rattle.neli_c.specs.Walks.{header_shown, message_layout}
+use Rattle.neli_c.specs.Walks.{head_view}
+use Rattle.neli_c.specs.Walks.{header_view, message_layout}
 
 align-le : (n : ℕ) → n ≤ align n
 align-le n = omega arith
@@ -91,7 +91,7 @@ module _ {H : Type 0} (size : ℕ) (header_of : List ℕ → H) (length_of : H �
 pub message-given : (bytes : List ℕ) (w new : NeliWalk) (s at r v : List ℕ) (h : Header ℕ) (m : NeliMessage)
     → (w.place ≤ w.end) × (w.end ≤ length bytes) × (s ≡ bytes_from w.place (w.end - w.place) bytes) → at ≡ s
     → frame_at message_layout at ≡ Ok ((h, v), r)
-    → header_shown m ≡ h → m.payload ≡ w.place + 16 → m.payload_length ≡ length v
+    → header_view m ≡ h → m.payload ≡ w.place + 16 → m.payload_length ≡ length v
     → new ≡ record w { place = w.place + align m.length } → GivesMessage bytes w new m
 message-given bytes w new s at r v h m places here eq head begins size moved =
     let g = frame-placed 16 (header_in (λ n. n)) (λ (x : Header ℕ). x.len) bytes w.place w.end at r v h places.0
@@ -122,7 +122,7 @@ attribute-given bytes w new s at r v h a places here eq long field parts begins 
     let g = frame-placed 4 (λ (b : List ℕ). record { len = number_in 2 0 b; kind = number_in 2 2 b })
     (λ (x : Head ℕ). x.len) bytes w.place w.end at r v h places.0 places.1 (here ∙ places.2) eq in
     let len : h.len ≡ a.length = sym long in
-    let head : head_shown a ≡ h = ap (λ (n : ℕ). head_of n a.field) long ∙ ap (λ (k : ℕ). head_of h.len k) field in
+    let head : head_view a ≡ h = ap (λ (n : ℕ). head_of n a.field) long ∙ ap (λ (k : ℕ). head_of h.len k) field in
     let to : new.place ≡ w.place + align a.length = ap (λ (x : NeliWalk). x.place) moved in
     let fit : w.place + align a.length ≤ w.end = subst (λ (n : ℕ). w.place + align n ≤ w.end) len g.3 in
     let ends : w.place + 4 + length v ≤ w.place + align a.length =

@@ -3,7 +3,7 @@
 use Rattle.std.specs.Prelude.{◌≡◌, ◌≢◌, ◌≤◌, ⊤, ℕ, zero, suc, ℤ, pos, Bool, true, false, List, [], ◌∷◌, length, take}
 use Rattle.std.specs.Prelude.{drop, Option, Some, None, Ok, Err, IfSome, slice_set}
 use Rattle.neli_reader.specs.Framed.{Nlmsghdr}
-use Rattle.neli_lent.specs.Messages.{message_said}
+use Rattle.neli_lent.specs.Messages.{message_view}
 use Rattle.neli_lent.specs.declared.message.LentMessage.{LentMessage}
 use Rattle.neli_deliveries.specs.declared.delivery.Delivery.{Delivery}
 use Rattle.neli_deliveries.specs.Readings.{Item}
@@ -64,7 +64,7 @@ message_in r = None
 
 -- this message is lent
 abbrev pub IsLentAs : Message → NeliLent → Type 0
-IsLentAs u lent = (m : LentMessage ℕ) × Lends (message_said m) u × IsStored m (pos 0) lent
+IsLentAs u lent = (m : LentMessage ℕ) × Lends (message_view m) u × IsStored m (pos 0) lent
 
 -- these are lent, one after the other
 abbrev pub AreLent : List Message → List NeliLent → Type 0

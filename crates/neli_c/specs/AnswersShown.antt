@@ -12,8 +12,8 @@ use Rattle.neli_c.specs.Codes.{bad_length, kind, ok, place, short}
 use Rattle.neli_c.specs.Walks.{bytes_from}
 
 -- the payload of a message, if it lies within the bytes
-abbrev pub payload_shown : List ℕ → NeliMessage → Option (List ℕ)
-payload_shown bytes m =
+abbrev pub payload_view : List ℕ → NeliMessage → Option (List ℕ)
+payload_view bytes m =
     if nat_le (m.payload + m.payload_length) (length bytes) then Some (bytes_from m.payload m.payload_length bytes)
     else None
 
@@ -58,8 +58,8 @@ payload_code m None = place
 payload_code m (Some s) = answer_code m.message_type m.flags s
 
 -- the header that an answer echoes
-abbrev pub echo_shown : NeliAnswer → Header ℕ
-echo_shown a = record {
+abbrev pub echo_view : NeliAnswer → Header ℕ
+echo_view a = record {
   len = a.echo_length;
   message_type = a.echo_type;
   flags = flags_of a.echo_flags;
@@ -74,7 +74,7 @@ no_header = record { len = 0; message_type = 0; flags = flags_of 0; sequence_num
 -- the code, the echoed header of an error (type 2), and the bytes of the attributes
 abbrev pub IsShown : NeliMessage → NeliAnswer → List ℕ → Type 0
 IsShown m a s =
-    (a.code ≡ code_in s) × (echo_shown a ≡ (if nat_eq m.message_type 2 then header_in (λ n. n) (drop 4 s)
+    (a.code ≡ code_in s) × (echo_view a ≡ (if nat_eq m.message_type 2 then header_in (λ n. n) (drop 4 s)
     else no_header))
     × (a.attributes ≡ record {
       place = m.payload + attributes_begin m.message_type m.flags s;

@@ -15,14 +15,14 @@ use Rattle.neli_kernel.specs.declared.request.Request.{Request}
 use Rattle.neli_c.specs.declared.kernel.NeliRequest.{NeliRequest}
 use Rattle.neli_c.specs.Codes.{bad_length, memory, ok, place}
 use Rattle.neli_c.specs.Writes.{WritesMessage}
-use Rattle.neli_c.specs.Walks.{header_shown, refusal_code}
+use Rattle.neli_c.specs.Walks.{header_view, refusal_code}
 
 -- ---- requests
 
 -- the request has this header, came from the socket of this port, and has this payload
 abbrev pub IsAsked : NeliRequest → List ℕ → Request → Type 0
 IsAsked r payload asked =
-    (asked.port ≡ r.port) × (asked.header ≡ header_shown r.message) × (asked.payload.now ≡ payload)
+    (asked.port ≡ r.port) × (asked.header ≡ header_view r.message) × (asked.payload.now ≡ payload)
 
 -- 1 where it holds, else 0
 abbrev pub byte_of : Bool → ℕ

@@ -17,7 +17,7 @@ use Rattle.neli_c.specs.declared.session.Slot.TheVariants as slot
 use Rattle.neli_c.specs.Codes.{item, kernel_error, no_ack, no_handle, ok, stray, unexpected_ack, waits}
 use Rattle.neli_c.specs.Sessions.{HasFree, pending, socket_code}
 use Rattle.neli_c.specs.Slots.{handle_at}
-use Rattle.neli_c.specs.Walks.{header_shown}
+use Rattle.neli_c.specs.Walks.{header_view}
 
 -- ---- what is lent
 
@@ -34,7 +34,7 @@ lent_code (Err error.ClosedChannel) = no_handle
 -- a message is stored, with the code of the error that it is: its header, and its payload, which is all of the bytes
 abbrev pub IsStored : LentMessage ℕ → ℤ → NeliLent → Type 0
 IsStored m code lent =
-    (header_shown lent.message ≡ m.header) × (lent.bytes.now ≡ m.payload.now) × (lent.message.payload ≡ 0)
+    (header_view lent.message ≡ m.header) × (lent.bytes.now ≡ m.payload.now) × (lent.message.payload ≡ 0)
     × (lent.message.payload_length ≡ length m.payload.now) × (lent.error ≡ code)
 
 -- the message of an item is stored, that of an error of the kernel too; of any other item nothing

@@ -14,7 +14,7 @@ use Rattle.neli_router.specs.declared.listening.Notice.TheVariants as notice
 use Rattle.neli_c.specs.declared.session.NeliItem.{NeliItem}
 use Rattle.neli_c.specs.declared.session.Session.{Session}
 use Rattle.neli_c.specs.Codes.{item, link, memory, no_handle, ok, overrun, waits}
-use Rattle.neli_c.specs.Sessions.{GivesNothing, fault_kind, item_code, item_message, item_shown, pending}
+use Rattle.neli_c.specs.Sessions.{GivesNothing, fault_kind, item_code, item_message, shown_fields, pending}
 use Rattle.neli_c.specs.Sessions.{shown_of}
 
 -- what listeners missed after the link's fault of this number: an overrun by its name (105, ENOBUFS)
@@ -39,7 +39,7 @@ notice_code (Err e) = memory
 -- its message is held, and shown; without an item both are unchanged
 abbrev pub HoldsNotice : {E : Type 0} → Result (Notice ℕ (List ℕ)) E → Option (Nlmsghdr ℕ (List ℕ))
     → Option (Nlmsghdr ℕ (List ℕ)) → NeliItem → NeliItem → Type 0
-HoldsNotice (Ok (notice.Message m)) old new a b = (new ≡ Some m) × (b ≡ item_shown m)
+HoldsNotice (Ok (notice.Message m)) old new a b = (new ≡ Some m) × (b ≡ shown_fields m)
 HoldsNotice (Ok (notice.Untyped i)) old new a b = (new ≡ item_message i) × (b ≡ shown_of (item_message i) a)
 HoldsNotice r old new a b = (new ≡ old) × (b ≡ a)
 

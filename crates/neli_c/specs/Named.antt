@@ -97,9 +97,9 @@ Checks code protocol m (Some payload) s old new size =
 abbrev pub At : Type 0
 At = Lines × List Step
 
-abbrev pub place_seen : Option Place → Option At
-place_seen None = None
-place_seen (Some place) = Some (place.table.now, place.path.steps.items)
+abbrev pub place_view : Option Place → Option At
+place_view None = None
+place_view (Some place) = Some (place.table.now, place.path.steps.items)
 
 abbrev pub at_text : At → List ℕ
 at_text at = path_text at.0 at.1

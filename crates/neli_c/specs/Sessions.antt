@@ -225,8 +225,8 @@ payload_error (payload.Err e) = e.error
 payload_error p = pos 0
 
 -- the shown fields of a message
-abbrev pub item_shown : Nlmsghdr ℕ (List ℕ) → NeliItem
-item_shown m =
+abbrev pub shown_fields : Nlmsghdr ℕ (List ℕ) → NeliItem
+shown_fields m =
     record {
       message_type = m.header.message_type;
       flags = m.header.flags.0;
@@ -259,7 +259,7 @@ item_message (Err e) = None
 
 -- the shown fields of a message, if there is one; else those shown before
 abbrev pub shown_of : Option (Nlmsghdr ℕ (List ℕ)) → NeliItem → NeliItem
-shown_of (Some m) shown = item_shown m
+shown_of (Some m) shown = shown_fields m
 shown_of None shown = shown
 
 -- an item's message is held, and shown; without an item both are unchanged

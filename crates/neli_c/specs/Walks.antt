@@ -59,8 +59,8 @@ walk_code layout (Some (b ∷ s)) = reading_code (frame_at layout (b ∷ s))
 -- ---- the result of a step
 
 -- the shown header of a message
-abbrev pub header_shown : NeliMessage → Header ℕ
-header_shown m = record {
+abbrev pub header_view : NeliMessage → Header ℕ
+header_view m = record {
   len = m.length;
   message_type = m.message_type;
   flags = flags_of m.flags;
@@ -73,7 +73,7 @@ abbrev pub GivesMessage : List ℕ → NeliWalk → NeliWalk → NeliMessage →
 GivesMessage bytes old new m =
     let s = bytes_from old.place (old.end - old.place) bytes in
     (frame_at message_layout s ≡ Ok (
-      (header_shown m, bytes_from m.payload m.payload_length bytes),
+      (header_view m, bytes_from m.payload m.payload_length bytes),
       drop (align m.length) s,
     ))
     × (m.payload ≡ old.place + 16) × (m.payload_length ≡ m.length - 16) × (m.payload + m.payload_length ≤ new.place)
@@ -81,8 +81,8 @@ GivesMessage bytes old new m =
     × (new.place ≤ old.end)
 
 -- the shown header of an attribute
-abbrev pub head_shown : NeliAttribute → Head ℕ
-head_shown a = record { len = a.length; kind = a.field }
+abbrev pub head_view : NeliAttribute → Head ℕ
+head_view a = record { len = a.length; kind = a.field }
 
 -- number and flags are the parts of the type field
 abbrev pub IsInParts : NeliAttribute → Type 0
@@ -93,7 +93,7 @@ abbrev pub GivesAttribute : List ℕ → NeliWalk → NeliWalk → NeliAttribute
 GivesAttribute bytes old new a =
     let s = bytes_from old.place (old.end - old.place) bytes in
     (frame_at attribute_layout s ≡ Ok (
-      (head_shown a, bytes_from a.payload a.payload_length bytes),
+      (head_view a, bytes_from a.payload a.payload_length bytes),
       drop (align a.length) s,
     ))
     × IsInParts a

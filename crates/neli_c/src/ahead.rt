@@ -1,7 +1,7 @@
 //! The messages that wait for a handle, stored one after the other. They take no memory, and no byte is copied.
 
 ghost use Rattle.std.specs.Prelude.{◌≡◌, IfSome, IsNone, ◌∷◌, [], pos};
-ghost use Rattle.neli_lent.specs.Messages.{message_said};
+ghost use Rattle.neli_lent.specs.Messages.{message_view};
 ghost use Rattle.neli_log.specs.Lending.{Lends};
 ghost use Rattle.neli_c.specs.Ahead.{Message, StoresAhead, is_rest, message_in, messages_in};
 
@@ -28,7 +28,7 @@ pub(crate) fn is_rest(reply: &LentReply<'_>) -> bool
 
 /// Lends the next message, if one comes next.
 fn next_message<'r>(ahead: &mut ItemsAhead<'r>) -> Option<LentMessage<'r, u16>>
-    ensures some { IfSome result (λ m. (u : Message) × Lends (message_said m) u
+    ensures some { IfSome result (λ m. (u : Message) × Lends (message_view m) u
         × (messages_in ahead.old ≡ u ∷ messages_in ahead.new)) }
     ensures none { IsNone result → messages_in ahead.old ≡ [] }
 {

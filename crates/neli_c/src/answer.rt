@@ -6,8 +6,8 @@ ghost use Rattle.std.specs.Prelude.{drop, length, min};
 ghost use Rattle.neli_reader.specs.Answers.{code_in, echo_end, echoed_in};
 ghost use Rattle.neli_reader.specs.Headers.{header_in};
 ghost use Rattle.neli_c.specs.Codes.{ok};
-ghost use Rattle.neli_c.specs.AnswersShown.{IsShown, answer_code, attributes_begin, echo_shown, no_header};
-ghost use Rattle.neli_c.specs.AnswersShown.{payload_code, payload_shown};
+ghost use Rattle.neli_c.specs.AnswersShown.{IsShown, answer_code, attributes_begin, echo_view, no_header};
+ghost use Rattle.neli_c.specs.AnswersShown.{payload_code, payload_view};
 
 use crate::code::{KIND, LENGTH, OK, PLACE, SHORT};
 use crate::lent::{NeliMessage, NeliWalk};
@@ -41,8 +41,8 @@ pub struct NeliAnswer {
 
 /// The payload of a message, where it lies within the bytes.
 pub(crate) fn payload_of<'b>(bytes: &'b [u8], message: &NeliMessage) -> Option<&'b [u8]>
-    ensures some { IfSome result (λ s. payload_shown bytes.now message.now ≡ Some s.now) }
-    ensures none { IsNone result → payload_shown bytes.now message.now ≡ None }
+    ensures some { IfSome result (λ s. payload_view bytes.now message.now ≡ Some s.now) }
+    ensures none { IsNone result → payload_view bytes.now message.now ≡ None }
 {
     let size = message.payload_length;
     if bytes.len() < size || bytes.len() - size < message.payload {
@@ -100,8 +100,8 @@ fn shown(payload: &[u8], has_echo: bool, attributes: NeliWalk) -> NeliAnswer
     requires code { 4 ≤ length payload.now }
     requires echo { has_echo ≡ true → 20 ≤ length payload.now }
     ensures code { result.code ≡ code_in payload.now }
-    ensures echo { has_echo ≡ true → echo_shown result ≡ header_in (λ n. n) (drop 4 payload.now) }
-    ensures nothing { has_echo ≡ false → echo_shown result ≡ no_header }
+    ensures echo { has_echo ≡ true → echo_view result ≡ header_in (λ n. n) (drop 4 payload.now) }
+    ensures nothing { has_echo ≡ false → echo_view result ≡ no_header }
     ensures attributes { result.attributes ≡ attributes }
 {
     let code = LittleEndian::read_i32(payload);
@@ -138,9 +138,9 @@ pub extern "C" fn neli_c_get_answer(
     message: &NeliMessage,
     answer: &mut NeliAnswer,
 ) -> i32
-    ensures code { result ≡ payload_code message.now (payload_shown bytes.now message.now) }
+    ensures code { result ≡ payload_code message.now (payload_view bytes.now message.now) }
     ensures answer { result ≡ ok
-        → IfSome (payload_shown bytes.now message.now) (IsShown message.now answer.new) }
+        → IfSome (payload_view bytes.now message.now) (IsShown message.now answer.new) }
     ensures unchanged { result ≢ ok → answer.new ≡ answer.old }
 {
     let Some(payload) = payload_of(bytes, message) else {

@@ -3,14 +3,14 @@
 //! What is made here takes memory, and leaves none behind.
 
 ghost use Rattle.std.specs.Prelude.{◌≡◌, ◌≢◌, [], IfErr, IfOk, Ok};
-ghost use Rattle.neli_c.specs.AnswersShown.{payload_shown};
+ghost use Rattle.neli_c.specs.AnswersShown.{payload_view};
 ghost use Rattle.neli_c.specs.Asked.{Answers, AnswersWhole, IsAsked, SaysWants, WritesAnswer};
 ghost use Rattle.neli_c.specs.Asked.{acknowledgement_wire};
 ghost use Rattle.neli_c.specs.Asked.{byte_of, capped_wire, error_wire, notification_wire, reply_wire};
 ghost use Rattle.neli_c.specs.Asked.{ser_code};
 ghost use Rattle.neli_c.specs.Codes.{item, ok};
 ghost use Rattle.neli_c.specs.Writes.{WritesMessage};
-ghost use Rattle.neli_c.specs.Walks.{GivesMessage, bytes_left, header_shown, message_layout, walk_code};
+ghost use Rattle.neli_c.specs.Walks.{GivesMessage, bytes_left, header_view, message_layout, walk_code};
 ghost use Rattle.neli_kernel.specs.declared.request.Request.{Request as Asked};
 
 use crate::answer::payload_of;
@@ -39,7 +39,7 @@ pub struct NeliRequest {
 
 /// The header that a message shows.
 fn header_of(message: &NeliMessage) -> NlmsghdrAck<u16>
-    ensures { result ≡ header_shown message.now }
+    ensures { result ≡ header_view message.now }
 {
     let built = NlmsghdrAckBuilder::default()
         .nl_len(message.length)
@@ -194,7 +194,7 @@ pub extern "C" fn neli_c_kernel_error(
     out: &mut [u8],
     size: &mut usize,
 ) -> i32
-    ensures { AnswersWhole result request.now (payload_shown sent.now request.now.message)
+    ensures { AnswersWhole result request.now (payload_view sent.now request.now.message)
         (error_wire code) ext_ack.now out.old out.new size.old size.new }
 {
     let Some(payload) = payload_of(sent, &request.message) else {

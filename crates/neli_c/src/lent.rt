@@ -4,7 +4,7 @@ ghost use Rattle.std.specs.Prelude.{◌≡◌, ◌≢◌, ◌≤◌, ◌-◌, If
 ghost use Rattle.neli_c.specs.Codes.{item, ok};
 ghost use Rattle.neli_c.specs.Walks.{GivesAttribute, GivesMessage, IsInParts, attribute_layout};
 ghost use Rattle.neli_c.specs.Walks.{bytes_from, bytes_left};
-ghost use Rattle.neli_c.specs.Walks.{header_shown, message_layout, refusal_code, walk_code};
+ghost use Rattle.neli_c.specs.Walks.{header_view, message_layout, refusal_code, walk_code};
 
 use crate::code::{BYTES, ITEM, LENGTH, MEMORY, OK, PLACE, SHORT};
 use neli_lent::{LentAttr, LentMessage};
@@ -59,7 +59,7 @@ fn left<'b>(bytes: &'b [u8], walk: NeliWalk) -> Option<&'b [u8]>
 
 /// The fields of a message whose payload lies at this place.
 pub(crate) fn message_at(lent: &LentMessage<'_, u16>, payload: usize) -> NeliMessage
-    ensures header { header_shown result ≡ lent.now.header }
+    ensures header { header_view result ≡ lent.now.header }
     ensures payload { result.payload ≡ payload }
     ensures payload_length { result.payload_length ≡ length lent.now.payload.now }
 {

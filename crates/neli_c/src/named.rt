@@ -7,7 +7,7 @@
 //! `LENGTH`. The tables are unchanged.
 
 ghost use Rattle.std.specs.Prelude.{◌≡◌, ◌≢◌, IfSome, None};
-ghost use Rattle.neli_c.specs.AnswersShown.{payload_shown};
+ghost use Rattle.neli_c.specs.AnswersShown.{payload_view};
 ghost use Rattle.neli_c.specs.Codes.{item, ok, room, state, violation};
 ghost use Rattle.neli_c.specs.Named.{Checks, Explains, FindsPath, GivesItems};
 
@@ -40,7 +40,7 @@ pub extern "C" fn neli_c_named_items(
     ensures closed { tables.old.place.value ≡ None
         → (result ≡ state) × (items.new ≡ items.old) × (out.new ≡ out.old) }
     ensures open { IfSome tables.old.place.value (λ s. GivesItems result protocol message.now
-        (payload_shown bytes.now message.now) s items.old items.new count.new out.old out.new
+        (payload_view bytes.now message.now) s items.old items.new count.new out.old out.new
         size.new) }
     ensures unstored { result ≢ ok → result ≢ room
         → (count.new ≡ count.old) × (size.new ≡ size.old) }
@@ -71,7 +71,7 @@ pub extern "C" fn neli_c_check(
     ensures closed { tables.old.place.value ≡ None
         → (result ≡ state) × (out.new ≡ out.old) }
     ensures open { IfSome tables.old.place.value (λ s. Checks result protocol message.now
-        (payload_shown bytes.now message.now) s out.old out.new size.new) }
+        (payload_view bytes.now message.now) s out.old out.new size.new) }
     ensures unprinted { result ≢ violation → size.new ≡ size.old }
     ensures same { tables.new.place.value ≡ tables.old.place.value }
 {
@@ -101,7 +101,7 @@ pub extern "C" fn neli_c_path_at(
     ensures closed { tables.old.place.value ≡ None
         → (result ≡ state) × (out.new ≡ out.old) }
     ensures open { IfSome tables.old.place.value (λ s. FindsPath result protocol message.now
-        (payload_shown bytes.now message.now) offset s out.old out.new size.new) }
+        (payload_view bytes.now message.now) offset s out.old out.new size.new) }
     ensures unprinted { result ≢ item → size.new ≡ size.old }
     ensures same { tables.new.place.value ≡ tables.old.place.value }
 {
@@ -134,7 +134,7 @@ pub extern "C" fn neli_c_refusal_text(
     ensures closed { tables.old.place.value ≡ None
         → (result ≡ state) × (out.new ≡ out.old) }
     ensures open { IfSome tables.old.place.value (λ s. Explains result protocol message.now
-        (payload_shown bytes.now message.now) error text.now offset s out.old out.new size.old
+        (payload_view bytes.now message.now) error text.now offset s out.old out.new size.old
         size.new) }
     ensures same { tables.new.place.value ≡ tables.old.place.value }
 {

@@ -2,12 +2,12 @@
 
 ghost use Rattle.std.specs.Prelude.{◌≡◌, ◌≢◌, ◌&&◌, IfOk, OnErr, nat_le, if◌then◌else◌};
 ghost use Rattle.std.specs.Option.{option_map};
-ghost use Rattle.neli_tables_walk.specs.Bodies.{body_in, body_seen};
-ghost use Rattle.neli_tables_walk.specs.Shapes.{context_seen};
-ghost use Rattle.neli_c.specs.AnswersShown.{payload_shown};
+ghost use Rattle.neli_tables_walk.specs.Bodies.{body_in, body_view};
+ghost use Rattle.neli_tables_walk.specs.Shapes.{context_view};
+ghost use Rattle.neli_c.specs.AnswersShown.{payload_view};
 ghost use Rattle.neli_c.specs.Codes.{bad_length, item, ok, room, violation};
 ghost use Rattle.neli_c.specs.Named.{Checks, Explains, FindsPath, GivesItems, StoresIn, StoresItems, at_in};
-ghost use Rattle.neli_c.specs.Named.{body_place, list_in, place_seen, said};
+ghost use Rattle.neli_c.specs.Named.{body_place, list_in, place_view, said};
 ghost use Rattle.neli_c_tables.specs.Named.{named_items, named_text};
 ghost use Rattle.neli_c.specs.Tables.{head_of};
 
@@ -29,9 +29,9 @@ fn body_in<'b, 'w>(
     bytes: &'b [u8],
     message: &NeliMessage,
 ) -> Option<Body<'b, 'w, 'static>>
-    ensures { option_map body_seen result
+    ensures { option_map body_view result
         ≡ option_map (body_in families.now.tables (head_of protocol message.now))
-        (payload_shown bytes.now message.now) }
+        (payload_view bytes.now message.now) }
 {
     match payload_of(bytes, message) {
         Some(payload) => Some(body_of(&families.tables, head_of(protocol, message), payload)),
@@ -41,7 +41,7 @@ fn body_in<'b, 'w>(
 
 /// What the attributes of a body are read by, and the list that they are, if the tables have one.
 fn list_in<'w>(body: &Body<'_, 'w, 'static>) -> Option<(Context<'w, 'static>, Nest)>
-    ensures { option_map (λ list. (context_seen list.0, list.1)) result ≡ list_in (body_seen body.now) }
+    ensures { option_map (λ list. (context_view list.0, list.1)) result ≡ list_in (body_view body.now) }
 {
     match (body.context(), body.shape()) {
         (Some(context), Shape::Nest(nest)) => Some((context, nest)),
@@ -51,7 +51,7 @@ fn list_in<'w>(body: &Body<'_, 'w, 'static>) -> Option<(Context<'w, 'static>, Ne
 
 /// The place of a body in the bytes that its message was read from; the largest where that passes 64 bits.
 fn body_place(body: &Body<'_, '_, 'static>, message: &NeliMessage) -> usize
-    ensures { result ≡ body_place (body_seen body.now) message.now }
+    ensures { result ≡ body_place (body_view body.now) message.now }
 {
     match body.generic {
         Some(_) => message.payload.saturating_add(GENERIC_HEADER_SIZE),
@@ -98,8 +98,8 @@ fn store_items(
     size: &mut usize,
 ) -> i32
     ensures stored { result ≢ bad_length → StoresItems result
-        (named_items (context_seen context.entry) nest bytes.now place)
-        (named_text (context_seen context.entry) nest bytes.now)
+        (named_items (context_view context.entry) nest bytes.now place)
+        (named_text (context_view context.entry) nest bytes.now)
         items.old items.new count.new out.old out.new size.new }
     ensures unstored { result ≡ bad_length
         → (count.new ≡ count.old) × (size.new ≡ size.old) }
@@ -118,7 +118,7 @@ fn body_items(
     out: &mut [u8],
     size: &mut usize,
 ) -> i32
-    ensures stored { StoresIn result (body_seen body.now) message.now (list_in (body_seen body.now))
+    ensures stored { StoresIn result (body_view body.now) message.now (list_in (body_view body.now))
         items.old items.new count.new out.old out.new size.new }
     ensures unstored { result ≢ ok → result ≢ room
         → (count.new ≡ count.old) × (size.new ≡ size.old) }
@@ -141,7 +141,7 @@ pub(crate) fn message_items(
     out: &mut [u8],
     size: &mut usize,
 ) -> i32
-    ensures stored { GivesItems result protocol message.now (payload_shown bytes.now message.now)
+    ensures stored { GivesItems result protocol message.now (payload_view bytes.now message.now)
         families.now items.old items.new count.new out.old out.new size.new }
     ensures unstored { result ≢ ok → result ≢ room
         → (count.new ≡ count.old) × (size.new ≡ size.old) }
@@ -161,7 +161,7 @@ pub(crate) fn check_message(
     out: &mut [u8],
     size: &mut usize,
 ) -> i32
-    ensures checked { Checks result protocol message.now (payload_shown bytes.now message.now)
+    ensures checked { Checks result protocol message.now (payload_view bytes.now message.now)
         families.now out.old out.new size.new }
     ensures unprinted { result ≢ violation → size.new ≡ size.old }
 {
@@ -186,7 +186,7 @@ pub(crate) fn check_message(
 
 /// The attribute at an offset of a body's message, by the body's table.
 fn place_in<'w>(body: &Body<'_, 'w, 'static>, offset: usize) -> Option<Place<'w, 'static>>
-    ensures { place_seen result ≡ at_in (body_seen body.now) offset }
+    ensures { place_view result ≡ at_in (body_view body.now) offset }
 {
     match (body.table, find(body, offset)) {
         (Some(table), Some(place)) => Some(Place {
@@ -207,7 +207,7 @@ pub(crate) fn path_at(
     out: &mut [u8],
     size: &mut usize,
 ) -> i32
-    ensures found { FindsPath result protocol message.now (payload_shown bytes.now message.now)
+    ensures found { FindsPath result protocol message.now (payload_view bytes.now message.now)
         offset families.now out.old out.new size.new }
     ensures unprinted { result ≢ item → size.new ≡ size.old }
 {
@@ -243,7 +243,7 @@ pub(crate) fn refusal_text(
     out: &mut [u8],
     size: &mut usize,
 ) -> i32
-    ensures { Explains result protocol message.now (payload_shown bytes.now message.now) error
+    ensures { Explains result protocol message.now (payload_view bytes.now message.now) error
         text.now offset families.now out.old out.new size.old size.new }
 {
     let Some(body) = body_in(families, protocol, bytes, message) else {

@@ -6,7 +6,7 @@
 
 ghost use Rattle.std.specs.Prelude.{◌≡◌, IfSome, None, false};
 ghost use Rattle.neli_print.specs.Messages.{datagram_json, datagram_text, message_json, message_text};
-ghost use Rattle.neli_c.specs.AnswersShown.{payload_shown};
+ghost use Rattle.neli_c.specs.AnswersShown.{payload_view};
 ghost use Rattle.neli_c.specs.Codes.{state};
 ghost use Rattle.neli_c.specs.Printed.{IsPrinted, PrintsMessage, header_of};
 
@@ -30,7 +30,7 @@ pub extern "C" fn neli_c_message_text(
 ) -> i32
     ensures open { IfSome tables.old.place.value (λ s. PrintsMessage result
         (message_text false s.tables (header_of protocol message.now))
-        (payload_shown bytes.now message.now) out.old out.new size.old size.new) }
+        (payload_view bytes.now message.now) out.old out.new size.old size.new) }
     ensures closed { tables.old.place.value ≡ None
         → (result ≡ state) × (out.new ≡ out.old) × (size.new ≡ size.old) }
     ensures same { tables.new.place.value ≡ tables.old.place.value }
@@ -57,7 +57,7 @@ pub extern "C" fn neli_c_message_json(
 ) -> i32
     ensures open { IfSome tables.old.place.value (λ s. PrintsMessage result
         (message_json s.tables (header_of protocol message.now))
-        (payload_shown bytes.now message.now) out.old out.new size.old size.new) }
+        (payload_view bytes.now message.now) out.old out.new size.old size.new) }
     ensures closed { tables.old.place.value ≡ None
         → (result ≡ state) × (out.new ≡ out.old) × (size.new ≡ size.old) }
     ensures same { tables.new.place.value ≡ tables.old.place.value }

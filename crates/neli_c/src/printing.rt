@@ -2,7 +2,7 @@
 
 ghost use Rattle.std.specs.Prelude.{◌≡◌, ◌≢◌, IfOk, OnErr, false, nat_le, if◌then◌else◌};
 ghost use Rattle.neli_print.specs.Messages.{datagram_json, datagram_text, message_json, message_text};
-ghost use Rattle.neli_c.specs.AnswersShown.{payload_shown};
+ghost use Rattle.neli_c.specs.AnswersShown.{payload_view};
 ghost use Rattle.neli_c.specs.Codes.{bad_length, ok, room};
 ghost use Rattle.neli_c.specs.Printed.{IsPrinted, Prints, PrintsMessage, header_of};
 
@@ -62,7 +62,7 @@ pub(crate) fn message_text(
 ) -> i32
     ensures { PrintsMessage result
         (message_text false families.now.tables (header_of protocol message.now))
-        (payload_shown bytes.now message.now) out.old out.new size.old size.new }
+        (payload_view bytes.now message.now) out.old out.new size.old size.new }
 {
     let Some(payload) = payload_of(bytes, message) else {
         return PLACE;
@@ -90,7 +90,7 @@ pub(crate) fn message_json(
 ) -> i32
     ensures { PrintsMessage result
         (message_json families.now.tables (header_of protocol message.now))
-        (payload_shown bytes.now message.now) out.old out.new size.old size.new }
+        (payload_view bytes.now message.now) out.old out.new size.old size.new }
 {
     let Some(payload) = payload_of(bytes, message) else {
         return PLACE;

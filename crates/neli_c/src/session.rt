@@ -11,7 +11,7 @@ ghost use Rattle.neli_c.specs.Sessions.{SaysNeeded};
 ghost use Rattle.neli_c.specs.Sessions.{SendsNothing, SendsRequest, SetsNumber, TakesDatagram};
 ghost use Rattle.neli_c.specs.Sessions.{TakesFault, TakesKind, WritesItem};
 ghost use Rattle.neli_c.specs.Sessions.{error_flags, error_message, item_code, item_message};
-ghost use Rattle.neli_c.specs.Sessions.{item_shown, reply_code, shown_of};
+ghost use Rattle.neli_c.specs.Sessions.{shown_fields, reply_code, shown_of};
 ghost use Rattle.neli_c.specs.Verdicts.{GivesUpHandle, HearsHandle, TellsVerdict};
 ghost use Rattle.neli_router.specs.Listening.{missed_with};
 ghost use Rattle.neli_router.specs.declared.listening.Missed.TheVariants as missed;
@@ -248,7 +248,7 @@ fn split(item: Item) -> (i32, Option<Message>)
 
 /// The shown fields of a message, beside its bytes.
 fn shown(message: &Message) -> NeliItem
-    ensures { result ≡ item_shown message.now }
+    ensures { result ≡ shown_fields message.now }
 {
     NeliItem {
         message_type: *message.nl_type(),

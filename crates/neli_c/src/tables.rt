@@ -3,7 +3,7 @@
 //! Each call but the first two returns `STATE` if the tables are closed, and changes nothing then.
 
 ghost use Rattle.std.specs.Prelude.{◌≡◌, ◌≢◌, ◌⊎◌, IfSome, IsSome, None};
-ghost use Rattle.neli_c.specs.AnswersShown.{payload_shown};
+ghost use Rattle.neli_c.specs.AnswersShown.{payload_view};
 ghost use Rattle.neli_c.specs.Codes.{bad_length, bad_table, memory, ok, state};
 ghost use Rattle.neli_c.specs.Opens.{StaysClosed, StaysOpen};
 ghost use Rattle.neli_c.specs.Tables.{AddsTable, IsBuiltIn, IsEmpty, Learns, LearnsFrom, head_of};
@@ -146,7 +146,7 @@ pub extern "C" fn neli_c_tables_learn_from(
 ) -> i32
     ensures closed { StaysClosed result tables.old.place.value tables.new.place.value }
     ensures open { StaysOpen
-        (LearnsFrom result (head_of protocol message.now) (payload_shown bytes.now message.now))
+        (LearnsFrom result (head_of protocol message.now) (payload_view bytes.now message.now))
         tables.old.place.value tables.new.place.value }
 {
     let Some(mut families) = tables.take(alloc) else {

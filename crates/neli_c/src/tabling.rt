@@ -6,7 +6,7 @@ ghost use Rattle.neli_tables.specs.Schemas.{table_in};
 ghost use Rattle.neli_tables.specs.Families.{tables_in};
 ghost use Rattle.neli_tables_walk.specs.Built.{IsAdded};
 ghost use Rattle.neli_c_tables.specs.Rooms.{beginning};
-ghost use Rattle.neli_c.specs.AnswersShown.{payload_shown};
+ghost use Rattle.neli_c.specs.AnswersShown.{payload_view};
 ghost use Rattle.neli_c.specs.Codes.{bad_length, bad_table, memory, ok};
 ghost use Rattle.neli_c.specs.Tables.{IsBadLine, Learns, LearnsFrom, SameLearnt, SameTables};
 ghost use Rattle.neli_c.specs.Tables.{head_of, unread_code};
@@ -110,7 +110,7 @@ pub(crate) fn learn_from(
     bytes: &[u8],
     message: &NeliMessage,
 ) -> i32
-    ensures { LearnsFrom result (head_of protocol message.now) (payload_shown bytes.now message.now)
+    ensures { LearnsFrom result (head_of protocol message.now) (payload_view bytes.now message.now)
         families.old families.new }
 {
     let Some(payload) = payload_of(bytes, message) else {

@@ -127,8 +127,8 @@ number_of None = 0
 number_of (Some kind) = kind.nla_type
 
 -- an attribute or a hop in so many lists
-abbrev pub element_shown : Lines → Begins → ℕ → Said → NeliNamed
-element_shown table begins depth (kind, payload, s) = record {
+abbrev pub element_named : Lines → Begins → ℕ → Said → NeliNamed
+element_named table begins depth (kind, payload, s) = record {
   number = number_of kind;
   kind = element_number table kind s;
   depth = depth;
@@ -141,8 +141,8 @@ element_shown table begins depth (kind, payload, s) = record {
 }
 
 -- what is left of a list in so many others
-abbrev pub left_shown : Begins → ℕ → List ℕ → NeliNamed
-left_shown begins depth bytes = record {
+abbrev pub left_named : Begins → ℕ → List ℕ → NeliNamed
+left_named begins depth bytes = record {
   number = 0;
   kind = 35;
   depth = depth + 1;
@@ -155,9 +155,9 @@ left_shown begins depth bytes = record {
 }
 
 -- an item, but for its texts
-abbrev pub item_shown : Lines → Begins → Seen → NeliNamed
-item_shown table begins (path, Ok said) = element_shown table begins (length path) said
-item_shown table begins (path, Err left) = left_shown begins (length path) left.0
+abbrev pub item_named : Lines → Begins → Seen → NeliNamed
+item_named table begins (path, Ok said) = element_named table begins (length path) said
+item_named table begins (path, Err left) = left_named begins (length path) left.0
 
 -- with a path of so many bytes at a place, and behind it a value of so many
 abbrev pub with_texts : NeliNamed → ℕ → ℕ → ℕ → NeliNamed
@@ -171,7 +171,7 @@ with_texts named path path_length value_length = record named {
 -- an item whose texts begin at a place
 abbrev pub item_at : Lines → Begins → ℕ → Seen → NeliNamed
 item_at table begins place item =
-    with_texts (item_shown table begins item) place (length (path_text table item.0))
+    with_texts (item_named table begins item) place (length (path_text table item.0))
     (length (value_json table item))
 
 -- items whose texts begin at a place, one behind the other
@@ -195,5 +195,5 @@ abbrev pub listed : Option ℕ → List ℕ
 listed None = []
 listed (Some n) = n ∷ []
 
-abbrev pub found_seen : Found → Said
-found_seen f = (f.kind, f.payload.now, f.shape)
+abbrev pub found_view : Found → Said
+found_view f = (f.kind, f.payload.now, f.shape)

@@ -67,7 +67,7 @@ impl Families {
         ensures ok { OnOk result ((n : ℕ) → learnt self.new.tables n
             ≡ learnt_as id (generic_in name.now (tables_in self.old.tables)) n
             (learnt self.old.tables n)) }
-        ensures err { OnErr result
+        ensures unchanged { OnErr result
             ((n : ℕ) → learnt self.new.tables n ≡ learnt self.old.tables n) }
     {
         self.tables.learn(id, name)
@@ -80,7 +80,7 @@ impl Families {
         ensures ok { OnOk result ((n : ℕ) → learnt self.new.tables n
             ≡ learnt_from (family_said head payload.now) (tables_in self.old.tables) n
             (learnt self.old.tables n)) }
-        ensures err { OnErr result
+        ensures unchanged { OnErr result
             ((n : ℕ) → learnt self.new.tables n ≡ learnt self.old.tables n) }
     {
         learn_from(&mut self.tables, head, payload)

@@ -3,12 +3,12 @@
 ghost use Rattle.std.specs.Prelude.{◌≡◌, ◌+◌, ◌<◌, ◌≤◌, [], ◌∷◌, ◌++◌, IfOk, OnErr, OnOk, Some, length};
 ghost use Rattle.neli_wire.specs.Sizes.{align};
 ghost use Rattle.neli_tables_walk.specs.Found.{front_of};
-ghost use Rattle.neli_tables_walk.specs.Shapes.{context_seen, kind_at};
-ghost use Rattle.neli_tables_walk.specs.Walks.{item_seen, sort_in};
+ghost use Rattle.neli_tables_walk.specs.Shapes.{context_view, kind_at};
+ghost use Rattle.neli_tables_walk.specs.Walks.{item_view, sort_in};
 ghost use Rattle.neli_tables_check.specs.Paths.{path_text};
 ghost use Rattle.neli_c_tables.specs.Named.{begin_at, begins_after, begins_behind, element_number};
-ghost use Rattle.neli_c_tables.specs.Named.{element_shown, found_seen, inner_begin, item_at};
-ghost use Rattle.neli_c_tables.specs.Named.{item_shown, item_text, items_from, items_text};
+ghost use Rattle.neli_c_tables.specs.Named.{element_named, found_view, inner_begin, item_at};
+ghost use Rattle.neli_c_tables.specs.Named.{item_named, item_text, items_from, items_text};
 ghost use Rattle.neli_c_tables.specs.Named.{kind_number, kind_or_none, listed, named_items};
 ghost use Rattle.neli_c_tables.specs.Named.{named_text, number_of, shape_number, value_json};
 ghost use Rattle.neli_c_tables.specs.Named.{with_texts};
@@ -150,7 +150,7 @@ fn front_of(kind: &Option<AttrType<u16>>) -> usize
 /// A size rounded up to four.
 fn aligned(size: usize) -> Result<usize, TooLong>
     ensures ok { IfOk result (λ n. n ≡ align size) }
-    ensures err { OnErr result (usize.MAX < size + 3) }
+    ensures refused { OnErr result (usize.MAX < size + 3) }
 {
     if usize::MAX - 3 < size {
         return Err(TooLong);
@@ -161,7 +161,7 @@ fn aligned(size: usize) -> Result<usize, TooLong>
 /// A place so many bytes further on.
 fn further(place: usize, size: usize) -> Result<usize, TooLong>
     ensures ok { IfOk result (λ n. n ≡ place + size) }
-    ensures err { OnErr result (usize.MAX < place + size) }
+    ensures refused { OnErr result (usize.MAX < place + size) }
 {
     place.checked_add(size).ok_or(TooLong)
 }
@@ -180,7 +180,7 @@ fn inner_begin(shape: &Shape, place: usize) -> Result<Option<usize>, TooLong>
 /// Puts a place behind the others, if there is room.
 fn push(begins: &mut Begins, place: usize) -> Result<(), TooLong>
     ensures ok { OnOk result (begins.new.items ≡ begins.old.items ++ place ∷ []) }
-    ensures err { OnErr result (MAX_DEPTH ≤ length begins.old.items) }
+    ensures refused { OnErr result (MAX_DEPTH ≤ length begins.old.items) }
 {
     match begins.try_push(place) {
         Ok(()) => Ok(()),
@@ -191,7 +191,7 @@ fn push(begins: &mut Begins, place: usize) -> Result<(), TooLong>
 /// Goes past an element of the list in so many others, and into the list that it is.
 fn go_behind(begins: &mut Begins, depth: usize, found: &Found<'_>) -> Result<(), TooLong>
     ensures { OnOk result (begins.new.items
-        ≡ begins_behind begins.old.items depth (found_seen found.now)) }
+        ≡ begins_behind begins.old.items depth (found_view found.now)) }
 {
     let begin = begin_at(begins, depth);
     let front = front_of(&found.kind);
@@ -207,7 +207,7 @@ fn go_behind(begins: &mut Begins, depth: usize, found: &Found<'_>) -> Result<(),
 
 /// Goes past an item.
 fn go_past(begins: &mut Begins, item: &Item<'_>) -> Result<(), TooLong>
-    ensures { OnOk result (begins.new.items ≡ begins_after begins.old.items (item_seen item.now)) }
+    ensures { OnOk result (begins.new.items ≡ begins_after begins.old.items (item_view item.now)) }
 {
     match &item.content {
         Ok(found) => go_behind(begins, item.path.steps().len().saturating_sub(1), found),
@@ -236,14 +236,14 @@ fn element_number(table: &Table<'_>, found: &Found<'_>) -> u8
 }
 
 /// An attribute or a hop in so many lists.
-fn element_shown(
+fn element_named(
     table: &Table<'_>,
     begins: &Begins,
     depth: u8,
     found: &Found<'_>,
 ) -> Result<NeliNamed, TooLong>
     ensures { IfOk result (λ named. named
-        ≡ element_shown table.now begins.now.items depth (found_seen found.now)) }
+        ≡ element_named table.now begins.now.items depth (found_view found.now)) }
 {
     let begin = begin_at(begins, depth.saturating_sub(1) as usize);
     Ok(NeliNamed {
@@ -262,7 +262,7 @@ fn element_shown(
 /// How many steps a path has.
 fn depth_of(path: &Path) -> Result<u8, TooLong>
     ensures ok { IfOk result (λ depth. (depth ≡ length path.now.steps.items) × (depth < 255)) }
-    ensures err { OnErr result (255 ≤ length path.now.steps.items) }
+    ensures refused { OnErr result (255 ≤ length path.now.steps.items) }
 {
     let depth = path.steps().len();
     if depth < 255 {
@@ -273,13 +273,13 @@ fn depth_of(path: &Path) -> Result<u8, TooLong>
 }
 
 /// An item, as C has it but for its texts.
-fn item_shown(table: &Table<'_>, begins: &Begins, item: &Item<'_>) -> Result<NeliNamed, TooLong>
+fn item_named(table: &Table<'_>, begins: &Begins, item: &Item<'_>) -> Result<NeliNamed, TooLong>
     ensures { IfOk result
-        (λ named. named ≡ item_shown table.now begins.now.items (item_seen item.now)) }
+        (λ named. named ≡ item_named table.now begins.now.items (item_view item.now)) }
 {
     let depth = depth_of(&item.path)?;
     match &item.content {
-        Ok(found) => element_shown(table, begins, depth, found),
+        Ok(found) => element_named(table, begins, depth, found),
         Err(rest) => Ok(NeliNamed {
             number: 0,
             kind: REST,
@@ -302,7 +302,7 @@ fn with_texts(
     value_length: usize,
 ) -> Result<NeliNamed, TooLong>
     ensures ok { IfOk result (λ named. named ≡ with_texts shown path path_length value_length) }
-    ensures err { OnErr result (usize.MAX < path + path_length) }
+    ensures refused { OnErr result (usize.MAX < path + path_length) }
 {
     let mut named = shown;
     named.path = path;
@@ -324,9 +324,9 @@ fn write_texts(
     ensures path { IfOk result
         (λ sizes. sizes.0 ≡ length (path_text table.now item.now.path.steps.items)) }
     ensures value { IfOk result
-        (λ sizes. sizes.1 ≡ length (value_json table.now (item_seen item.now))) }
+        (λ sizes. sizes.1 ≡ length (value_json table.now (item_view item.now))) }
     ensures text { OnOk result
-        (out.new ≡ put_at place (item_text table.now (item_seen item.now)) out.old) }
+        (out.new ≡ put_at place (item_text table.now (item_view item.now)) out.old) }
 {
     let path = PathText {
         table,
@@ -368,16 +368,16 @@ fn store(
     out: &mut [u8],
 ) -> Result<Stored, TooLong>
     ensures begins { OnOk result
-        (begins.new.items ≡ begins_after begins.old.items (item_seen item.now)) }
+        (begins.new.items ≡ begins_after begins.old.items (item_view item.now)) }
     ensures items { OnOk result (items.new ≡ put_at stored.count
-        (item_at table.now begins.old.items stored.size (item_seen item.now) ∷ []) items.old) }
+        (item_at table.now begins.old.items stored.size (item_view item.now) ∷ []) items.old) }
     ensures text { OnOk result
-        (out.new ≡ put_at stored.size (item_text table.now (item_seen item.now)) out.old) }
+        (out.new ≡ put_at stored.size (item_text table.now (item_view item.now)) out.old) }
     ensures count { IfOk result (λ next. next.count ≡ stored.count + 1) }
     ensures size { IfOk result
-        (λ next. next.size ≡ stored.size + length (item_text table.now (item_seen item.now))) }
+        (λ next. next.size ≡ stored.size + length (item_text table.now (item_view item.now))) }
 {
-    let shown = item_shown(table, begins, item)?;
+    let shown = item_named(table, begins, item)?;
     let (path, value) = write_texts(table, item, out, stored.size)?;
     let named = with_texts(shown, stored.size, path, value)?;
     put_item(items, stored.count, named);
@@ -425,13 +425,13 @@ pub fn named_items(
     out: &mut [u8],
 ) -> Result<Stored, TooLong>
     ensures items { OnOk result (items.new ≡ put_at 0
-        (named_items (context_seen context.entry) nest bytes.now place) items.old) }
+        (named_items (context_view context.entry) nest bytes.now place) items.old) }
     ensures text { OnOk result
-        (out.new ≡ put_at 0 (named_text (context_seen context.entry) nest bytes.now) out.old) }
+        (out.new ≡ put_at 0 (named_text (context_view context.entry) nest bytes.now) out.old) }
     ensures count { IfOk result (λ stored. stored.count
-        ≡ length (named_items (context_seen context.entry) nest bytes.now place)) }
+        ≡ length (named_items (context_view context.entry) nest bytes.now place)) }
     ensures size { IfOk result (λ stored. stored.size
-        ≡ length (named_text (context_seen context.entry) nest bytes.now)) }
+        ≡ length (named_text (context_view context.entry) nest bytes.now)) }
 {
     let start = further(place, aligned(nest.header)?)?;
     store_all(
@@ -453,7 +453,7 @@ struct ItemValue<'i, 'b, 'w, 't> {
 }
 
 impl fmt::Display for ItemValue<'_, '_, '_, '_> {
-    ghost output = { λ v. Some (value_json v.table.now (item_seen v.item.now)) };
+    ghost output = { λ v. Some (value_json v.table.now (item_view v.item.now)) };
 
     fn fmt<W: fmt::Write>(&self, f: &mut fmt::Formatter<W>) -> fmt::Result {
         match &self.item.content {

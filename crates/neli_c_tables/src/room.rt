@@ -23,7 +23,7 @@ impl<'a> fmt::Write for Room<'a> {
 
     fn write_str(&mut self, text: &str) -> fmt::Result
         ensures ok { IsOk result → Writes self.old text.now self.new }
-        ensures err { OnErr result (usize.MAX < self.old.size + length text.now) }
+        ensures refused { OnErr result (usize.MAX < self.old.size + length text.now) }
     {
         let bytes = text.as_bytes();
         let Some(size) = self.size.checked_add(bytes.len()) else {

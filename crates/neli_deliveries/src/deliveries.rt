@@ -47,7 +47,7 @@ pub trait Deliveries: Sized + Drop {
         requires { pending self.old (Some number) ≡ None }
         ensures port { port_of self.new ≡ port_of self.old }
         ensures opened { OnOk result (Opens number (pending self.old) (pending self.new)) }
-        ensures err { OnErr result (SameLists (pending self.old) (pending self.new)) };
+        ensures unchanged { OnErr result (SameLists (pending self.old) (pending self.new)) };
 
     /// Removes a list with its deliveries. It takes no memory.
     fn close(&mut self, whose: Option<u32>)
@@ -64,7 +64,7 @@ pub trait Deliveries: Sized + Drop {
             (λ q. is_some (pending self.old (Some q))) w
             (cut_of untyped_layout bytes.now) groups.now)
             (pending self.old) (pending self.new)) }
-        ensures err { OnErr result (SameLists (pending self.old) (pending self.new)) }
+        ensures unchanged { OnErr result (SameLists (pending self.old) (pending self.new)) }
         ensures empty { bytes.now ≡ [] → IsOk result };
 
     /// Delivers a fault of the link to each open number, unless the fault is that the link would block.
@@ -75,7 +75,7 @@ pub trait Deliveries: Sized + Drop {
         ensures port { port_of self.new ≡ port_of self.old }
         ensures ok { OnOk result (ListsGain (λ w. fault_share w error)
             (pending self.old) (pending self.new)) }
-        ensures err { OnErr result (SameLists (pending self.old) (pending self.new)) }
+        ensures unchanged { OnErr result (SameLists (pending self.old) (pending self.new)) }
         ensures would_block { is_would_block error ≡ true → IsOk result }
         ensures unawaited { ((q : ℕ) → pending self.old (Some q) ≡ None) → IsOk result };
 

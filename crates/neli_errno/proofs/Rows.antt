@@ -2,7 +2,7 @@
 use Rattle.std.proofs.Common.{◌≡◌, refl, ap, ◌∙◌, ℕ, Bool, true, false, List, [], ◌∷◌, Some, map, find, nat_eq, cond}
 use Rattle.std.specs.Borrow.{Bor}
 use Rattle.std.specs.Option.{option_map}
-use Rattle.neli_errno.specs.Errnos.{row_seen, errnos, errno_of}
+use Rattle.neli_errno.specs.Errnos.{row_view, errnos, errno_of}
 
 -- the view of the first row found is the first found of all views
 find_viewed : {A B : Type 0} (view : A → B) (p : B → Bool) (xs : List A)
@@ -16,7 +16,7 @@ find_viewed view p (x ∷ xs) = by (p (view x)) (find_viewed view p xs)
     by false e = e
 
 -- the row that is found is the table's
-pub find_seen : (rows : List (ℕ × Bor (List ℕ) × Bor (List ℕ))) (number : ℕ) → map row_seen rows ≡ errnos
-    → option_map row_seen (find (λ row. nat_eq row.0 number) rows) ≡ errno_of number
-find_seen rows number same = find_viewed row_seen (λ row. nat_eq row.0 number) rows
+pub find_seen : (rows : List (ℕ × Bor (List ℕ) × Bor (List ℕ))) (number : ℕ) → map row_view rows ≡ errnos
+    → option_map row_view (find (λ row. nat_eq row.0 number) rows) ≡ errno_of number
+find_seen rows number same = find_viewed row_view (λ row. nat_eq row.0 number) rows
     ∙ ap (find (λ row. nat_eq row.0 number)) same

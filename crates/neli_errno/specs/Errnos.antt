@@ -9,12 +9,12 @@ abbrev pub Row : Type 0
 Row = ℕ × List ℕ × List ℕ
 
 -- a row of the code's table
-abbrev pub row_seen : ℕ × Bor (List ℕ) × Bor (List ℕ) → Row
-row_seen row = (row.0, row.1.now, row.2.now)
+abbrev pub row_view : ℕ × Bor (List ℕ) × Bor (List ℕ) → Row
+row_view row = (row.0, row.1.now, row.2.now)
 
 -- the row of an error
-abbrev pub errno_seen : Errno → Row
-errno_seen e = (e.number, e.name.now, e.meaning.now)
+abbrev pub errno_view : Errno → Row
+errno_view e = (e.number, e.name.now, e.meaning.now)
 
 -- every number that has a name
 unfoldable pub errnos : List Row

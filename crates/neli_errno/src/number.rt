@@ -2,7 +2,7 @@
 
 ghost use Rattle.std.specs.Prelude.{◌≡◌, Some};
 ghost use Rattle.std.specs.Option.{option_map};
-ghost use Rattle.neli_errno.specs.Errnos.{errno_of, errno_seen, errno_text};
+ghost use Rattle.neli_errno.specs.Errnos.{errno_of, errno_view, errno_text};
 
 use crate::table;
 use std::fmt;
@@ -19,7 +19,7 @@ pub struct Errno {
 impl Errno {
     /// The error with this number, as 22 for `EINVAL`; `None` for a number without a name.
     pub fn from_number(number: u32) -> Option<Errno>
-        ensures { option_map errno_seen result ≡ errno_of number }
+        ensures { option_map errno_view result ≡ errno_of number }
     {
         table::errno_of(number)
     }
@@ -47,7 +47,7 @@ impl Errno {
 }
 
 impl fmt::Display for Errno {
-    ghost output = { λ e. Some (errno_text (errno_seen e)) };
+    ghost output = { λ e. Some (errno_text (errno_view e)) };
 
     fn fmt<W: fmt::Write>(&self, f: &mut fmt::Formatter<W>) -> fmt::Result {
         let name = self.name;

@@ -2,7 +2,7 @@
 
 ghost use Rattle.std.specs.Prelude.{◌≡◌, find, map, nat_eq};
 ghost use Rattle.std.specs.Option.{option_copied, option_map};
-ghost use Rattle.neli_errno.specs.Errnos.{errno_of, errno_seen, errnos, row_seen};
+ghost use Rattle.neli_errno.specs.Errnos.{errno_of, errno_view, errnos, row_view};
 
 use crate::Errno;
 
@@ -168,7 +168,7 @@ static ERRNOS: [Row; 132] = [
 /// The whole table.
 #[tactic(auto, unfolding(crate::specs::Errnos::errnos))]
 fn errno_rows() -> &'static [Row]
-    ensures { map row_seen result.now ≡ errnos }
+    ensures { map row_view result.now ≡ errnos }
 {
     &ERRNOS
 }
@@ -182,14 +182,14 @@ fn find_row(rows: &[Row], number: u32) -> Option<&Row>
 
 /// The table's row with this number.
 fn row_of(number: u32) -> Option<Row>
-    ensures { option_map row_seen result ≡ errno_of number }
+    ensures { option_map row_view result ≡ errno_of number }
 {
     find_row(errno_rows(), number).copied()
 }
 
 /// The error with this number, if the table has it.
 pub(crate) fn errno_of(number: u32) -> Option<Errno>
-    ensures { option_map errno_seen result ≡ errno_of number }
+    ensures { option_map errno_view result ≡ errno_of number }
 {
     let (number, name, meaning) = row_of(number)?;
     Some(Errno {

@@ -5,7 +5,7 @@ use Rattle.std.proofs.lemmas.Bool.{le-ltb}
 use Rattle.std.proofs.lemmas.List.{append-nil}
 use Rattle.std.proofs.lemmas.List.Elements.{All-weaker}
 use Rattle.neli_attr.specs.Attributes.{attribute, attributes_in}
-use Rattle.neli_attr.specs.Nlattr.{nlattr_says, nlattr_wire}
+use Rattle.neli_attr.specs.Nlattr.{nlattr_view, nlattr_wire}
 use Rattle.neli_attr.specs.TypeField.{number_of, type_of}
 use Rattle.neli_attr.specs.declared.nlattr.Nlattr.{Nlattr}
 use Rattle.neli_attr.specs.laws.RoundTrips.{IsWrittenAs, attribute-written, list-reads_back, number_of-small}
@@ -55,7 +55,7 @@ module _ {C T H V : Type 0} (width : ℕ) (cmd_number : C → ℕ) (cmd_of : ℕ
 
   plain-written : (a : Nlattr T (List ℕ)) → IsPlainNlattr type_number value_of a
       → IsWrittenAs (attribute (type_of value_of) (λ bytes. Ok bytes))
-      (nlattr_wire type_number (λ bytes. Ok bytes)) nlattr_says a
+      (nlattr_wire type_number (λ bytes. Ok bytes)) nlattr_view a
   plain-written a is =
       let small : type_number a.nla_type.nla_type < 65536 = omega (arith, is.kind) in
       attribute-written (type_of value_of) a.nla_len (number_of type_number a.nla_type) a.nla_type a.nla_payload is.len
@@ -64,12 +64,12 @@ module _ {C T H V : Type 0} (width : ℕ) (cmd_number : C → ℕ) (cmd_of : ℕ
 
   attrs-back : (attrs : Attrs T) → ArePlainNlattrs type_number value_of attrs
       → (bytes : List ℕ) × (attrs_wire type_number attrs ≡ Ok bytes)
-      × (attributes_in (type_of value_of) bytes ≡ Ok (map nlattr_says attrs))
+      × (attributes_in (type_of value_of) bytes ≡ Ok (map nlattr_view attrs))
   attrs-back attrs are =
-      list-reads_back (type_of value_of) (nlattr_wire type_number (λ bytes. Ok bytes)) nlattr_says attrs
+      list-reads_back (type_of value_of) (nlattr_wire type_number (λ bytes. Ok bytes)) nlattr_view attrs
       (All-weaker (IsPlainNlattr type_number value_of)
       (IsWrittenAs (attribute (type_of value_of) (λ bytes. Ok bytes))
-      (nlattr_wire type_number (λ bytes. Ok bytes)) nlattr_says) plain-written attrs are)
+      (nlattr_wire type_number (λ bytes. Ok bytes)) nlattr_view) plain-written attrs are)
 
   pub genlmsghdr-whole : (view : H → V) (m : Genlmsghdr C T H) → IsPlainGenlmsghdr width cmd_number cmd_of m
       → ArePlainNlattrs type_number value_of m.attrs → GenlReadsBackWhole width cmd_number cmd_of type_number value_of
@@ -77,5 +77,5 @@ module _ {C T H V : Type 0} (width : ℕ) (cmd_number : C → ℕ) (cmd_of : ℕ
   genlmsghdr-whole view m is are header writes reads =
       let list = attrs-back m.attrs are in
       let both = genlmsghdr-back m is header list.0 (view m.header)
-      (map nlattr_says m.attrs) writes reads list.1 list.2 in
+      (map nlattr_view m.attrs) writes reads list.1 list.2 in
       (genlmsghdr_bytes (cmd_number m.cmd) m.version m.reserved ++ header ++ list.0, both.0, both.1)

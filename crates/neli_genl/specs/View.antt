@@ -1,6 +1,6 @@
 -- How contracts see a message of generic netlink.
 use Rattle.std.specs.Prelude.{map}
-use Rattle.neli_attr.specs.Nlattr.{nlattr_says}
+use Rattle.neli_attr.specs.Nlattr.{nlattr_view}
 use Rattle.neli_genl.specs.Genlmsghdr.{GenlFields, AttributesRead}
 use Rattle.neli_genl.specs.declared.genlmsghdr.Genlmsghdr.{Genlmsghdr}
 
@@ -11,5 +11,5 @@ says view m = record {
   version = m.version;
   reserved = m.reserved;
   header = view m.header;
-  attrs = map nlattr_says m.attrs;
+  attrs = map nlattr_view m.attrs;
 }

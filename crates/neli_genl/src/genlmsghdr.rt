@@ -7,7 +7,7 @@ ghost use Rattle.neli_wire.specs.Place.{whole};
 ghost use Rattle.neli_wire.specs.Reading.{map_refusal, refusal_within};
 ghost use Rattle.neli_wire.specs.laws.Sizes.{unpadded-rounded};
 ghost use Rattle.neli_wire.specs.Writing.{RefusesWrite, append_wire};
-ghost use Rattle.neli_attr.specs.Nlattr.{nlattr_says};
+ghost use Rattle.neli_attr.specs.Nlattr.{nlattr_view};
 ghost use Rattle.neli_attr.specs.Builders.{IsWhyNot};
 ghost use Rattle.neli_genl.specs.Genlmsghdr.{GenlFields, AttributesRead, fields_of, genlmsghdr_built, genlmsghdr_bytes};
 ghost use Rattle.neli_genl.specs.Genlmsghdr.{genlmsghdr_of, genlmsghdr_plain, genlmsghdr_size, genlmsghdr_takes_memory};

@@ -13,7 +13,7 @@ use Rattle.neli_consts.specs.NlmsgerrAttr.{nlmsgerr_attr_number, nlmsgerr_attr_o
 use Rattle.neli_consts.specs.declared.nlmsg.NlmsgerrAttr.{NlmsgerrAttr}
 use Rattle.neli_attr.specs.AttrType.{AttrType}
 use Rattle.neli_attr.specs.Attributes.{Attr, attribute}
-use Rattle.neli_attr.specs.Nlattr.{nlattr_says, nlattr_wire}
+use Rattle.neli_attr.specs.Nlattr.{nlattr_view, nlattr_wire}
 use Rattle.neli_attr.specs.TypeField.{number_of, type_of}
 use Rattle.neli_attr.specs.declared.nlattr.Nlattr.{Nlattr}
 use Rattle.neli_attr.specs.laws.Nlattr.{nlattr_wire-length}
@@ -36,7 +36,7 @@ nothing-read_back = record { written = refl; read = refl }
 -- ---- plain ones
 
 plain-written : (a : Nlattr NlmsgerrAttr (List ℕ)) → IsPlainAttribute a
-    → IsWrittenAs (attribute (type_of nlmsgerr_attr_of) (λ bytes. Ok bytes)) one_wire nlattr_says a
+    → IsWrittenAs (attribute (type_of nlmsgerr_attr_of) (λ bytes. Ok bytes)) one_wire nlattr_view a
 plain-written a is =
     let small : nlmsgerr_attr_number a.nla_type.nla_type < 65536 = omega (arith, is.kind) in
     attribute-written (type_of nlmsgerr_attr_of) a.nla_len
@@ -44,15 +44,15 @@ plain-written a is =
     (number_of-small nlmsgerr_attr_number a.nla_type small)
     (type_of-named nlmsgerr_attr_of nlmsgerr_attr_number a.nla_type is.kind is.named)
 
-said-again : (attrs : Attributes) → map attribute_of (map nlattr_says attrs) ≡ attrs
+said-again : (attrs : Attributes) → map attribute_of (map nlattr_view attrs) ≡ attrs
 said-again [] = refl
 said-again (a ∷ attrs) = ap (λ (more : Attributes). a ∷ more) (said-again attrs)
 
 pub plain-read_back : (attrs : Attributes) → All IsPlainAttribute attrs → (text : List ℕ) × AreReadBack attrs text
 plain-read_back attrs are =
-    let back = list-reads_back (type_of nlmsgerr_attr_of) one_wire nlattr_says attrs
+    let back = list-reads_back (type_of nlmsgerr_attr_of) one_wire nlattr_view attrs
     (All-weaker IsPlainAttribute (IsWrittenAs (attribute (type_of nlmsgerr_attr_of)
-    (λ bytes. Ok bytes)) one_wire nlattr_says) plain-written attrs are) in
+    (λ bytes. Ok bytes)) one_wire nlattr_view) plain-written attrs are) in
     let read : ext_ack_in back.0 ≡ Ok attrs =
     ap (λ (r : Result (List (Attr (AttrType NlmsgerrAttr) (List ℕ))) DeError). r >>= λ list. Ok
     (map attribute_of list)) back.2

@@ -12,8 +12,8 @@ abbrev pub lent_attribute : {K : Type 0} → (ℕ → K) → Layout (Head K) (Li
 lent_attribute kind_of = attribute kind_of (λ bytes. Ok bytes)
 
 -- an attribute's header and payload
-abbrev pub attribute_said : {K : Type 0} → LentAttr K → Attr K (List ℕ)
-attribute_said a = attr a.len a.kind a.payload.now
+abbrev pub attribute_view : {K : Type 0} → LentAttr K → Attr K (List ℕ)
+attribute_view a = attr a.len a.kind a.payload.now
 
 -- the rest at a place: the attributes, and the fault after them, which refuses the whole list
 unfoldable pub attributes_at : {K : Type 0} → (ℕ → K) → Place → Cut (Attr K (List ℕ))

@@ -15,8 +15,8 @@ abbrev pub Lent : Type 0 → Type 0
 Lent K = Header K × List ℕ
 
 -- this message's header and payload
-abbrev pub message_said : {K : Type 0} → LentMessage K → Lent K
-message_said m = (m.header, m.payload.now)
+abbrev pub message_view : {K : Type 0} → LentMessage K → Lent K
+message_view m = (m.header, m.payload.now)
 
 -- their layout: that of messages, each with its payload's bytes whatever its kind
 abbrev pub lent_message : {K : Type 0} → (ℕ → K) → Layout (Header K) (List ℕ)

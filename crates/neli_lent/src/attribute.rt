@@ -5,7 +5,7 @@ ghost use Rattle.neli_wire.specs.Frames.{frame_at};
 ghost use Rattle.neli_wire.specs.Place.{whole};
 ghost use Rattle.neli_wire.specs.Refusals.{Refuses};
 ghost use Rattle.neli_attr.specs.Payloads.{ReadsFirst, RefusesAs};
-ghost use Rattle.neli_lent.specs.Attributes.{attribute_said, lent_attribute};
+ghost use Rattle.neli_lent.specs.Attributes.{attribute_view, lent_attribute};
 
 use crate::{LentAttrs, lend_payload};
 use byteorder::{ByteOrder, LittleEndian};
@@ -66,7 +66,7 @@ impl<'b, K: Constant<Number = u16>> LentAttr<'b, K> {
     #[tactic(auto, unfolding(neli_wire::specs::Frames::frame_at))]
     pub fn lend(cursor: &mut Cursor<'b>) -> Result<Self, DeError>
         ensures value { IfOk result (λ a. frame_at (lent_attribute K.wire_value) cursor.old.rest
-            ≡ Ok (attribute_said a, cursor.new.rest)) }
+            ≡ Ok (attribute_view a, cursor.new.rest)) }
         ensures moved { OnOk result (whole cursor.new ≡ whole cursor.old) }
         ensures refused { IfErr result
             (λ e. frame_at (lent_attribute K.wire_value) cursor.old.rest ≡ Err e) }

@@ -5,7 +5,7 @@ ghost use Rattle.std.specs.Iterator.{YieldsFirstBy, item_count};
 ghost use Rattle.neli_wire.specs.Place.{Place, whole};
 ghost use Rattle.neli_attr.specs.Lookup.{is_masked};
 ghost use Rattle.neli_lent.specs.Walks.{count_of, cut_with, find_in, items_of, map_found, map_item, map_ok};
-ghost use Rattle.neli_lent.specs.Attributes.{attribute_said, attributes_at};
+ghost use Rattle.neli_lent.specs.Attributes.{attribute_view, attributes_at};
 
 use crate::selector::Masked;
 use crate::{AttrSelector, LentAttr};
@@ -53,7 +53,7 @@ impl<'b, K: Constant<Number = u16>> LentAttrs<'b, K> {
     #[inline]
     fn step(&mut self) -> Option<Result<LentAttr<'b, K>, DeError>>
         ensures cut { attributes_at K.wire_value self.old
-            ≡ cut_with (map_item attribute_said result) (attributes_at K.wire_value self.new) }
+            ≡ cut_with (map_item attribute_view result) (attributes_at K.wire_value self.new) }
         ensures end { IsNone result → attributes_at K.wire_value self.new ≡ ([], None) }
         ensures fault { IfSome result
             (λ item. OnErr item (attributes_at K.wire_value self.new ≡ ([], None))) }
@@ -92,7 +92,7 @@ impl<'b, K: Constant<Number = u16>> LentAttrs<'b, K> {
         &self,
         t: S,
     ) -> Result<Option<LentAttr<'b, K>>, DeError>
-        ensures { map_found attribute_said result
+        ensures { map_found attribute_view result
             ≡ find_in (λ a. S.selects t a.0.kind) (attributes_at K.wire_value self.now) }
     {
         let mut attrs = self.ahead();
@@ -131,7 +131,7 @@ impl<'b, T: RtaType> LentAttrs<'b, T> {
     /// A type with a number of 16384 or more is never found. Refused with the fault of the rest, if no such attribute
     /// stands before it.
     pub fn get_attribute_masked(&self, t: T) -> Result<Option<LentAttr<'b, T>>, DeError>
-        ensures { map_found attribute_said result
+        ensures { map_found attribute_view result
             ≡ find_in (λ a. is_masked T.wire_number t a.0.kind)
             (attributes_at T.wire_value self.now) }
     {
@@ -142,7 +142,7 @@ impl<'b, T: RtaType> LentAttrs<'b, T> {
 impl<'b, K: Constant<Number = u16>> Iterator for LentAttrs<'b, K> {
     type Item = Result<LentAttr<'b, K>, DeError>;
 
-    ghost next_gives = { YieldsFirstBy (map_ok attribute_said)
+    ghost next_gives = { YieldsFirstBy (map_ok attribute_view)
         (λ place. items_of (attributes_at K.wire_value place)) };
 
     ghost remaining = { item_count (λ place. items_of (attributes_at K.wire_value place)) };

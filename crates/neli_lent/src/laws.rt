@@ -11,8 +11,8 @@ ghost use Rattle.neli_wire.specs.Sizes.{align};
 ghost use Rattle.neli_reader.specs.Messages.{message_layout};
 ghost use Rattle.neli_reader.specs.Framed.{Nlmsghdr as Message};
 ghost use Rattle.neli_reader.specs.Wires.{message_wire, payload_size};
-ghost use Rattle.neli_lent.specs.Attributes.{attribute_said, attributes_at};
-ghost use Rattle.neli_lent.specs.Messages.{Lent, lent_message, message_said, messages_in, owned_reading};
+ghost use Rattle.neli_lent.specs.Attributes.{attribute_view, attributes_at};
+ghost use Rattle.neli_lent.specs.Messages.{Lent, lent_message, message_view, messages_in, owned_reading};
 ghost use Rattle.neli_lent.specs.Walks.{items_of, map_ok};
 ghost use Rattle.neli_lent.specs.Written.{HeaderFits, IsWalked, header_numbered};
 ghost use Rattle.neli_lent.specs.laws.Walks.{StepsOnly};
@@ -58,9 +58,9 @@ pub fn lent_attributes_are_the_list<K: Constant<Number = u16>>()
 /// follows it; it gives the end if nothing is left.
 pub fn walks_give_what_is_left<K: Constant<Number = u16>, T: NlType>()
     ensures attributes { StepsOnly ⟦<LentAttrs<'static, K> as Iterator>⟧.next_gives
-        (YieldsFirstBy (map_ok attribute_said) (λ place. items_of (attributes_at K.wire_value place))) }
+        (YieldsFirstBy (map_ok attribute_view) (λ place. items_of (attributes_at K.wire_value place))) }
     ensures messages { StepsOnly ⟦<LentMessages<'static, T> as Iterator>⟧.next_gives
-        (YieldsFirstBy (map_ok message_said) (λ s. items_of (messages_in T.wire_value s))) }
+        (YieldsFirstBy (map_ok message_view) (λ s. items_of (messages_in T.wire_value s))) }
 {}
 
 /// A generic attribute is found by its type without the flags, a routing one by its whole type.

@@ -8,7 +8,7 @@ ghost use Rattle.neli_reader.specs.Answers.{after};
 ghost use Rattle.neli_reader.specs.Messages.{message_of};
 ghost use Rattle.neli_reader.specs.NlPayload.TheVariants as payload;
 ghost use Rattle.neli_reader.specs.Retyping.{typed_header};
-ghost use Rattle.neli_lent.specs.Messages.{as_owned, as_owned_takes_memory, lent_message, message_said};
+ghost use Rattle.neli_lent.specs.Messages.{as_owned, as_owned_takes_memory, lent_message, message_view};
 
 use crate::{LentAttrs, lend_payload};
 use neli_consts::{MESSAGE_HEADER_SIZE, NLMSG_DONE, NLMSG_ERROR, NlType, NlmF};
@@ -104,7 +104,7 @@ impl<'b, T: NlType> LentMessage<'b, T> {
     #[tactic(auto, unfolding(neli_wire::specs::Frames::frame_at))]
     pub fn lend(cursor: &mut Cursor<'b>) -> Result<Self, DeError>
         ensures value { IfOk result (λ m. frame_at (lent_message T.wire_value) cursor.old.rest
-            ≡ Ok (message_said m, cursor.new.rest)) }
+            ≡ Ok (message_view m, cursor.new.rest)) }
         ensures moved { OnOk result (whole cursor.new ≡ whole cursor.old) }
         ensures refused { IfErr result
             (λ e. frame_at (lent_message T.wire_value) cursor.old.rest ≡ Err e) }
@@ -127,11 +127,11 @@ impl<'b, T: NlType> LentMessage<'b, T> {
         alloc: Global,
     ) -> Result<Nlmsghdr<T, P>, DeError>
         ensures value { IfOk result
-            (λ m. as_owned T.wire_value T.wire_number P.read (message_said self.now)
+            (λ m. as_owned T.wire_value T.wire_number P.read (message_view self.now)
             ≡ Ok (message_of P.view m)) }
         ensures refused { IfErr result
-            (Refuses (as_owned T.wire_value T.wire_number P.read (message_said self.now))
-            (as_owned_takes_memory T.wire_number P.read P.takes_memory (message_said self.now))) }
+            (Refuses (as_owned T.wire_value T.wire_number P.read (message_view self.now))
+            (as_owned_takes_memory T.wire_number P.read P.takes_memory (message_view self.now))) }
     {
         let number = self.header.nl_type().to_number();
         let flags = *self.header.nl_flags();
@@ -146,7 +146,7 @@ impl<'b> LentMessage<'b, u16> {
     /// It takes no memory.
     pub fn has_plain_body(&self) -> bool
         ensures body { IsTrue result
-            → as_owned (λ n. n) (λ n. n) (λ bytes. Ok bytes) (message_said self.now)
+            → as_owned (λ n. n) (λ n. n) (λ bytes. Ok bytes) (message_view self.now)
             ≡ Ok (self.now.header, payload.Payload self.now.payload.now) }
         ensures types { IsTrue result
             ↔ (self.now.header.message_type ≢ 2) × (self.now.header.message_type ≢ 3) }

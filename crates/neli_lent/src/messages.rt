@@ -3,7 +3,7 @@
 ghost use Rattle.std.specs.Prelude.{◌≡◌, ◌+◌, ◌≤◌, ℕ, List, [], None, IfSome, IsNone, OnOk, OnErr, length};
 ghost use Rattle.std.specs.Iterator.{YieldsFirstBy, item_count};
 ghost use Rattle.neli_lent.specs.Walks.{cut_with, items_of, map_item, map_ok};
-ghost use Rattle.neli_lent.specs.Messages.{message_said, messages_in};
+ghost use Rattle.neli_lent.specs.Messages.{message_view, messages_in};
 
 use crate::LentMessage;
 use neli_consts::NlType;
@@ -41,7 +41,7 @@ impl<'b, T: NlType> LentMessages<'b, T> {
     #[inline]
     fn step(&mut self) -> Option<Result<LentMessage<'b, T>, DeError>>
         ensures cut { messages_in T.wire_value self.old
-            ≡ cut_with (map_item message_said result) (messages_in T.wire_value self.new) }
+            ≡ cut_with (map_item message_view result) (messages_in T.wire_value self.new) }
         ensures end { IsNone result → messages_in T.wire_value self.new ≡ ([], None) }
         ensures fault { IfSome result
             (λ item. OnErr item (messages_in T.wire_value self.new ≡ ([], None))) }
@@ -81,7 +81,7 @@ impl<'b, T: NlType> LentMessages<'b, T> {
 impl<'b, T: NlType> Iterator for LentMessages<'b, T> {
     type Item = Result<LentMessage<'b, T>, DeError>;
 
-    ghost next_gives = { YieldsFirstBy (map_ok message_said)
+    ghost next_gives = { YieldsFirstBy (map_ok message_view)
         (λ s. items_of (messages_in T.wire_value s)) };
 
     ghost remaining = { item_count (λ s. items_of (messages_in T.wire_value s)) };

@@ -1,7 +1,7 @@
 -- Lent deliveries: what is lent is the delivery that waits.
 use Rattle.std.specs.Prelude.{◌≡◌, ℕ, List, Option, Some, None, Ok}
 use Rattle.neli_reader.specs.Framed.{Nlmsghdr}
-use Rattle.neli_lent.specs.Messages.{Lent, as_owned, message_said}
+use Rattle.neli_lent.specs.Messages.{Lent, as_owned, message_view}
 use Rattle.neli_deliveries.specs.declared.delivery.Delivery.{Delivery}
 use Rattle.neli_deliveries.specs.declared.delivery.Delivery.TheVariants as delivery
 use Rattle.neli_log.specs.declared.lending.LentDelivery.{LentDelivery}
@@ -13,8 +13,8 @@ Lends m u = as_owned (λ n. n) (λ n. n) (λ bytes. Ok bytes) m ≡ Ok (u.header
 
 -- what is lent is this delivery
 abbrev pub IsLent : Delivery → LentDelivery → Type 0
-IsLent (delivery.Message u) (lent.Message m) = Lends (message_said m) u
-IsLent (delivery.Stray u) (lent.Stray m) = Lends (message_said m) u
+IsLent (delivery.Message u) (lent.Message m) = Lends (message_view m) u
+IsLent (delivery.Stray u) (lent.Stray m) = Lends (message_view m) u
 IsLent (delivery.Fault e) (lent.Fault f) = f.now ≡ e
 IsLent d l = ⊥
 

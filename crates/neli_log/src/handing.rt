@@ -77,7 +77,7 @@ pub(crate) fn keep_copy(
         → span_bytes datagrams.new s ≡ slice_range bytes.now s.start s.end) }
     ensures bytes { OnOk result
         (bytes_of datagrams.new ≡ bytes_of datagrams.old + kept_with spans bytes.now) }
-    ensures err { OnErr result (IsUnchanged datagrams.old datagrams.new) }
+    ensures unchanged { OnErr result (IsUnchanged datagrams.old datagrams.new) }
 {
     if spans == 0 {
         return Ok(());

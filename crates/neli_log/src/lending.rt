@@ -1,7 +1,7 @@
 //! Lent deliveries: a message stays where the log keeps its datagram.
 
 ghost use Rattle.neli_reader.specs.Messages.{message_from};
-ghost use Rattle.neli_lent.specs.Messages.{message_said};
+ghost use Rattle.neli_lent.specs.Messages.{message_view};
 ghost use Rattle.neli_lent.specs.Spans.{IsSpan, Spells};
 ghost use Rattle.neli_deliveries.specs.Deliveries.{Untyped, head_of};
 ghost use Rattle.neli_log.specs.Spans.{span_bytes};
@@ -31,7 +31,7 @@ pub enum LentDelivery<'b> {
 /// The message in a span's bytes.
 fn lent(span: &[u8]) -> LentMessage<'_, u16>
     requires { IsSpan span.now }
-    ensures { (u : Untyped) → Spells span.now u → Lends (message_said result) (message_from u) }
+    ensures { (u : Untyped) → Spells span.now u → Lends (message_view result) (message_from u) }
 {
     let mut cursor = Cursor::new(span);
     match LentMessage::lend(&mut cursor) {

@@ -86,7 +86,7 @@ impl Deliveries for Log {
         requires { pending_of self.old (Some number) ≡ None }
         ensures port { self.new.port ≡ self.old.port }
         ensures opened { OnOk result (Opens number (pending_of self.old) (pending_of self.new)) }
-        ensures err { OnErr result (SameLists (pending_of self.old) (pending_of self.new)) }
+        ensures unchanged { OnErr result (SameLists (pending_of self.old) (pending_of self.new)) }
         ensures left { IsAsBefore self.old self.new }
     {
         self.store.open(number)
@@ -109,7 +109,7 @@ impl Deliveries for Log {
         ensures port { self.new.port ≡ self.old.port }
         ensures ok { OnOk result (ListsGain (share_of self.old bytes.now groups.now)
             (pending_of self.old) (pending_of self.new)) }
-        ensures err { OnErr result (SameLists (pending_of self.old) (pending_of self.new)) }
+        ensures unchanged { OnErr result (SameLists (pending_of self.old) (pending_of self.new)) }
         ensures empty { bytes.now ≡ [] → IsOk result }
         ensures kept { OnOk result (KeepsEntries self.old self.new bytes.now) }
         ensures once { OnOk result (KeepsEachOnce self.old self.new
@@ -125,7 +125,7 @@ impl Deliveries for Log {
         ensures port { self.new.port ≡ self.old.port }
         ensures ok { OnOk result (ListsGain (λ w. fault_share w error)
             (pending_of self.old) (pending_of self.new)) }
-        ensures err { OnErr result (SameLists (pending_of self.old) (pending_of self.new)) }
+        ensures unchanged { OnErr result (SameLists (pending_of self.old) (pending_of self.new)) }
         ensures would_block { is_would_block error ≡ true → IsOk result }
         ensures unawaited { ((q : ℕ) → pending_of self.old (Some q) ≡ None) → IsOk result }
         ensures kept { OnOk result (KeepsEntries self.old self.new []) }

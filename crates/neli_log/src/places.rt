@@ -100,7 +100,7 @@ impl<T: Drop> Places<T> {
         ensures opened { OnOk result (pending_of self.new (Some number) ≡ Some []) }
         ensures others { OnOk result (SameListsBut (Some number)
             (pending_of self.old) (pending_of self.new)) }
-        ensures err { OnErr result (SameLists (pending_of self.old) (pending_of self.new)) }
+        ensures unchanged { OnErr result (SameLists (pending_of self.old) (pending_of self.new)) }
         ensures enough { HasPlaceRoom self.old → IsOk result }
         ensures trimmed { IsTrimmed self.new }
         ensures room { KeepsRoom self.old self.new }

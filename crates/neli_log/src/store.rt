@@ -88,7 +88,7 @@ impl Store {
         requires log { IsTrimmedAndBacked self.old }
         ensures port { self.new.port ≡ self.old.port }
         ensures opened { OnOk result (Opens number (pending_of self.old) (pending_of self.new)) }
-        ensures err { OnErr result (SameLists (pending_of self.old) (pending_of self.new)) }
+        ensures unchanged { OnErr result (SameLists (pending_of self.old) (pending_of self.new)) }
         ensures left { IsAsBefore self.old self.new }
         ensures log { IsTrimmedAndBacked self.new }
     {
@@ -148,7 +148,7 @@ impl Store {
         ensures port { self.new.port ≡ self.old.port }
         ensures ok { OnOk result (ListsGain (λ w. deliveries_added bytes.now w entries.items)
             (pending_of self.old) (pending_of self.new)) }
-        ensures err { OnErr result (SameLists (pending_of self.old) (pending_of self.new)) }
+        ensures unchanged { OnErr result (SameLists (pending_of self.old) (pending_of self.new)) }
         ensures kept { OnOk result (Keeps self.old self.new bytes.now entries.items) }
         ensures read { OnOk result (entries_read self.new
             ≡ entries_read self.old ++ map (entry_read (part_of bytes.now)) entries.items) }
@@ -168,7 +168,7 @@ impl Store {
         ensures port { self.new.port ≡ self.old.port }
         ensures ok { OnOk result (ListsGain (share_of self.old bytes.now groups.now)
             (pending_of self.old) (pending_of self.new)) }
-        ensures err { OnErr result (SameLists (pending_of self.old) (pending_of self.new)) }
+        ensures unchanged { OnErr result (SameLists (pending_of self.old) (pending_of self.new)) }
         ensures empty { bytes.now ≡ [] → IsOk result }
         ensures kept { OnOk result (KeepsEntries self.old self.new bytes.now) }
         ensures once { OnOk result (KeepsEachOnce self.old self.new
@@ -194,7 +194,7 @@ impl Store {
         ensures port { self.new.port ≡ self.old.port }
         ensures ok { OnOk result (ListsGain (λ w. fault_share w error)
             (pending_of self.old) (pending_of self.new)) }
-        ensures err { OnErr result (SameLists (pending_of self.old) (pending_of self.new)) }
+        ensures unchanged { OnErr result (SameLists (pending_of self.old) (pending_of self.new)) }
         ensures would_block { is_would_block error ≡ true → IsOk result }
         ensures unawaited { ((q : ℕ) → pending_of self.old (Some q) ≡ None) → IsOk result }
         ensures kept { OnOk result (KeepsEntries self.old self.new []) }

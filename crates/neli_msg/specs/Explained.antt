@@ -4,7 +4,7 @@ use Rattle.std.specs.Prelude.{Option, Some, None, find, nat_eq, int_lt, unsigned
 use Rattle.std.specs.Fmt.{decimal, signed_decimal}
 use Rattle.std.specs.Option.{option_and_then, option_map}
 use Rattle.std.specs.Result.{result_ok}
-use Rattle.neli_errno.specs.Errnos.{Row, errno_of, errno_seen, errno_text}
+use Rattle.neli_errno.specs.Errnos.{Row, errno_of, errno_view, errno_text}
 use Rattle.neli_wire.specs.Numbers.{little_number}
 use Rattle.neli_wire.specs.Strings.{owned_text}
 use Rattle.neli_consts.specs.declared.nlmsg.NlmsgerrAttr.{NlmsgerrAttr}
@@ -52,7 +52,7 @@ parts_text code named words place = signed_decimal code ++ (named_text named ++ 
 
 -- the text that an explained answer prints
 abbrev pub explained_text : Explained → List ℕ
-explained_text e = parts_text e.code (option_map errno_seen e.errno) (option_map (λ t. t.now) e.words) e.place
+explained_text e = parts_text e.code (option_map errno_view e.errno) (option_map (λ t. t.now) e.words) e.place
 
 -- an answer of this code and these attributes, explained
 abbrev pub explanation : ℤ → Attributes → List ℕ

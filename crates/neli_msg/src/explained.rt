@@ -4,7 +4,7 @@ ghost use Rattle.std.specs.Prelude.{◌≡◌, Err, IfErr, IfOk, Ok, Some, find,
 ghost use Rattle.std.specs.Option.{option_and_then, option_copied, option_map};
 ghost use Rattle.neli_consts.specs.NlmsgerrAttr.{nlmsgerr_attr_number};
 ghost use Rattle.neli_consts.specs.declared.nlmsg.NlmsgerrAttr.TheVariants as kind;
-ghost use Rattle.neli_errno.specs.Errnos.{errno_seen};
+ghost use Rattle.neli_errno.specs.Errnos.{errno_view};
 ghost use Rattle.neli_wire.specs.Strings.{owned_text};
 ghost use Rattle.neli_msg.specs.Explained.{errno_in, explained_text, explanation, named_text, payload_in};
 ghost use Rattle.neli_msg.specs.Explained.{place_in, place_text, words_in, words_text};
@@ -49,7 +49,7 @@ impl<M> Nlmsgerr<M> {
 
 /// The error with the code's number, which a kernel sends negated.
 fn errno_of(code: i32) -> Option<Errno>
-    ensures { option_map errno_seen result ≡ errno_in code }
+    ensures { option_map errno_view result ≡ errno_in code }
 {
     if code < 0 {
         Errno::from_number(code.unsigned_abs())
@@ -139,7 +139,7 @@ fn place_of(attrs: &GenlBuffer<NlmsgerrAttr, Buffer>) -> Option<u32>
 struct Named(Option<Errno>);
 
 impl fmt::Display for Named {
-    ghost output = { λ n. Some (named_text (option_map errno_seen n.0)) };
+    ghost output = { λ n. Some (named_text (option_map errno_view n.0)) };
 
     fn fmt<W: fmt::Write>(&self, f: &mut fmt::Formatter<W>) -> fmt::Result {
         match &self.0 {

@@ -7,7 +7,7 @@ use Rattle.std.specs.Borrow.{Bor}
 use Rattle.std.specs.Fmt.{HasWritten, IsPlainFormatter}
 use Rattle.std.specs.declared.fmt.Formatter.{Formatter}
 use Rattle.neli_lent.specs.Messages.{Lent}
-use Rattle.neli_print.specs.MessageFlags.{flag_seen}
+use Rattle.neli_print.specs.MessageFlags.{flag_view}
 use Rattle.neli_tables.specs.declared.tables.Tables.{Tables}
 use Rattle.neli_tables_walk.specs.Visited.{Visited, visited}
 use Rattle.neli_tables_walk.specs.Walks.{Seen}
@@ -73,25 +73,25 @@ printed_end took start f left all is so_far = λ plain.
 -- ---- flags
 
 flags_here : (rows : List (ℕ × Bor (List ℕ))) (i : ℕ) (d : ℕ × Bor (List ℕ)) → i < length rows
-    → map flag_seen (drop i rows) ≡ flag_seen (get_or rows i d) ∷ map flag_seen (drop (i + 1) rows)
-flags_here rows i d within = ap (map flag_seen) (drop_more rows i d within)
+    → map flag_view (drop i rows) ≡ flag_view (get_or rows i d) ∷ map flag_view (drop (i + 1) rows)
+flags_here rows i d within = ap (map flag_view) (drop_more rows i d within)
 
 -- a row is printed where it is named
 pub flag_printed :
     {W : Type 0} (took : W → List ℕ → W → Type 0) (start f g : Formatter W) (form : FlagForm)
     (set : ℕ) (left after : Left) (rows : List (ℕ × Bor (List ℕ))) (i : ℕ)
     (row d : ℕ × Bor (List ℕ)) (all : List ℕ) → i < length rows → row ≡ get_or rows i d
-    → after ≡ after_flag (flag_seen row) set left
-    → Prints took f (flag_text form set left (flag_seen row)) g
-    → IsPrinted took start f (flags_from form set left (map flag_seen (drop i rows))) all
-    → IsPrinted took start g (flags_from form set after (map flag_seen (drop (i + 1) rows))) all
+    → after ≡ after_flag (flag_view row) set left
+    → Prints took f (flag_text form set left (flag_view row)) g
+    → IsPrinted took start f (flags_from form set left (map flag_view (drop i rows))) all
+    → IsPrinted took start g (flags_from form set after (map flag_view (drop (i + 1) rows))) all
 flag_printed took start f g form set left after rows i row d all within at is prints so_far =
-    let rest = map flag_seen (drop (i + 1) rows) in
-    printed_more took start f g (flag_text form set left (flag_seen row))
+    let rest = map flag_view (drop (i + 1) rows) in
+    printed_more took start f g (flag_text form set left (flag_view row))
     (flags_from form set after rest) _ all prints
     (ap (flags_from form set left) (flags_here rows i d within
-    ∙ ap (λ (r : ℕ × Bor (List ℕ)). flag_seen r ∷ rest) (sym at))
-    ∙ ap (λ (a : Left). flag_text form set left (flag_seen row) ++ flags_from form set a rest)
+    ∙ ap (λ (r : ℕ × Bor (List ℕ)). flag_view r ∷ rest) (sym at))
+    ∙ ap (λ (a : Left). flag_text form set left (flag_view row) ++ flags_from form set a rest)
     (sym is))
     so_far
 
@@ -100,11 +100,11 @@ pub flags_printed :
     {W : Type 0} (took : W → List ℕ → W → Type 0) (start f g : Formatter W) (form : FlagForm)
     (set : ℕ) (left : Left) (rows : List (ℕ × Bor (List ℕ))) (i : ℕ) (all : List ℕ)
     → length rows ≤ i → Prints took f (rest_text form left) g
-    → IsPrinted took start f (flags_from form set left (map flag_seen (drop i rows))) all
+    → IsPrinted took start f (flags_from form set left (map flag_view (drop i rows))) all
     → Prints took start all g
 flags_printed took start f g form set left rows i all over prints so_far =
     printed_all took start f g (rest_text form left) _ all prints
-    (ap (λ (rs : List (ℕ × Bor (List ℕ))). flags_from form set left (map flag_seen rs))
+    (ap (λ (rs : List (ℕ × Bor (List ℕ))). flags_from form set left (map flag_view rs))
     (drop_all i rows over))
     so_far
 

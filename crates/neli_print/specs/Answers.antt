@@ -16,12 +16,12 @@ use Rattle.neli_print.specs.Heads.{header_in}
 abbrev pub PartsSeen : Type 0
 PartsSeen = Option Header × Option (List ℕ) × Option (List ℕ) × List ℕ
 
-abbrev pub bytes_seen : Option (Bor (List ℕ)) → Option (List ℕ)
-bytes_seen bytes = option_map (λ b. b.now) bytes
+abbrev pub bytes_view : Option (Bor (List ℕ)) → Option (List ℕ)
+bytes_view bytes = option_map (λ b. b.now) bytes
 
-abbrev pub parts_seen : Parts → PartsSeen
-parts_seen parts =
-    (parts.request, bytes_seen parts.body, bytes_seen parts.attributes, parts.rest.now)
+abbrev pub parts_view : Parts → PartsSeen
+parts_view parts =
+    (parts.request, bytes_view parts.body, bytes_view parts.attributes, parts.rest.now)
 
 -- bytes of which nothing is known
 abbrev pub bare : List ℕ → PartsSeen

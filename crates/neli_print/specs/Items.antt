@@ -4,13 +4,13 @@ use Rattle.neli_wire.specs.declared.errors.DeError.{DeError}
 use Rattle.neli_tables_walk.specs.declared.shape.Shape.{Shape}
 use Rattle.neli_tables_walk.specs.declared.shape.Shape.TheVariants.{Nest, Hops}
 use Rattle.neli_tables_walk.specs.Visited.{Visited, visited}
-use Rattle.neli_tables_walk.specs.Walks.{Said, Seen, content_seen}
+use Rattle.neli_tables_walk.specs.Walks.{Said, Seen, content_view}
 use Rattle.neli_print.specs.declared.item.Entry.{Entry}
 use Rattle.neli_print.specs.declared.item.Open.{Open}
 
 -- what an entry says
-abbrev pub entry_seen : Entry → Visited
-entry_seen e = (e.lists, e.step, content_seen e.content.now)
+abbrev pub entry_view : Entry → Visited
+entry_view e = (e.lists, e.step, content_view e.content.now)
 
 abbrev pub has_items : Shape → Bool
 has_items (Nest nest) = true

@@ -6,8 +6,8 @@ use Rattle.std.specs.Borrow.{Bor}
 use Rattle.bitflags.specs.Sets.{Row}
 
 -- a row of the code's tables
-abbrev pub flag_seen : ℕ × Bor (List ℕ) → Row
-flag_seen row = (row.1.now, row.0)
+abbrev pub flag_view : ℕ × Bor (List ℕ) → Row
+flag_view row = (row.1.now, row.0)
 
 -- the flags of every message
 abbrev pub common : List Row

@@ -2,7 +2,7 @@
 
 ghost use Rattle.std.specs.Prelude.{◌≡◌, ◌≤◌, length};
 ghost use Rattle.neli_print.specs.Answers.{answer_parts, bare, echoed_size, error_parts, headed};
-ghost use Rattle.neli_print.specs.Answers.{is_listed, listed, parts_seen, whole};
+ghost use Rattle.neli_print.specs.Answers.{is_listed, listed, parts_view, whole};
 
 use crate::head::Header;
 use crate::item::front_of;
@@ -32,7 +32,7 @@ pub(crate) struct Parts<'b> {
 impl<'b> Parts<'b> {
     /// Bytes of which nothing is known.
     fn bare(rest: &'b [u8]) -> Parts<'b>
-        ensures { parts_seen result ≡ bare rest.now }
+        ensures { parts_view result ≡ bare rest.now }
     {
         Parts {
             request: None,
@@ -44,7 +44,7 @@ impl<'b> Parts<'b> {
 
     /// Attributes.
     fn listed(attributes: &'b [u8]) -> Parts<'b>
-        ensures { parts_seen result ≡ listed attributes.now }
+        ensures { parts_view result ≡ listed attributes.now }
     {
         Parts {
             request: None,
@@ -56,7 +56,7 @@ impl<'b> Parts<'b> {
 
     /// A request's header, and attributes behind it if there is a list of them.
     fn headed(request: Header, is_listed: bool, behind: &'b [u8]) -> Parts<'b>
-        ensures { parts_seen result ≡ headed request is_listed behind.now }
+        ensures { parts_view result ≡ headed request is_listed behind.now }
     {
         if is_listed {
             return Parts {
@@ -72,7 +72,7 @@ impl<'b> Parts<'b> {
 
     /// A whole request, and attributes behind it.
     fn whole(request: Header, echoed: &'b [u8]) -> Parts<'b>
-        ensures { parts_seen result ≡ whole request echoed.now }
+        ensures { parts_view result ≡ whole request echoed.now }
     {
         let size = echoed_size(request.length, echoed);
         Parts {
@@ -102,7 +102,7 @@ fn has_attributes(flags: NlmF) -> bool
 /// What an error or an acknowledgement has.
 fn error_parts<'b>(head: Head, payload: &'b [u8]) -> Parts<'b>
     requires { 4 ≤ length payload.now }
-    ensures { parts_seen result ≡ error_parts head payload.now }
+    ensures { parts_view result ≡ error_parts head payload.now }
 {
     let behind = &payload[4..];
     let Some(request) = Header::read(head.protocol, behind) else {
@@ -119,7 +119,7 @@ fn error_parts<'b>(head: Head, payload: &'b [u8]) -> Parts<'b>
 /// What an answer has behind its code.
 pub(crate) fn answer_parts<'b>(head: Head, payload: &'b [u8]) -> Parts<'b>
     requires { 4 ≤ length payload.now }
-    ensures { parts_seen result ≡ answer_parts head payload.now }
+    ensures { parts_view result ≡ answer_parts head payload.now }
 {
     match head.message_type {
         NLMSG_ERROR => error_parts(head, payload),

@@ -2,8 +2,8 @@
 
 ghost use Rattle.std.specs.Prelude.{◌≡◌, Some};
 ghost use Rattle.std.specs.Option.{option_map};
-ghost use Rattle.neli_tables_walk.specs.Bodies.{body_seen};
-ghost use Rattle.neli_tables_walk.specs.Shapes.{context_seen};
+ghost use Rattle.neli_tables_walk.specs.Bodies.{body_view};
+ghost use Rattle.neli_tables_walk.specs.Shapes.{context_view};
 ghost use Rattle.neli_print.specs.Bodies.{body_members, body_name, body_text, bytes_line};
 ghost use Rattle.neli_print.specs.Bodies.{bytes_member, generic_line, generic_members};
 ghost use Rattle.neli_print.specs.Bodies.{known_members, known_text, reserved, row_line};
@@ -21,7 +21,7 @@ use std::fmt;
 
 /// The name of a body's message, if a table has it.
 pub(crate) fn body_name<'t>(body: &Body<'_, '_, 't>) -> Option<&'t [u8]>
-    ensures { option_map (λ name. name.now) result ≡ body_name (body_seen body.now) }
+    ensures { option_map (λ name. name.now) result ≡ body_name (body_view body.now) }
 {
     Some(line_name(body.table?, body.line?))
 }
@@ -127,7 +127,7 @@ struct KnownMembers<'b, 'w, 't> {
 }
 
 impl fmt::Display for KnownMembers<'_, '_, '_> {
-    ghost output = { λ k. Some (known_members (context_seen k.context) k.shape k.bytes.now) };
+    ghost output = { λ k. Some (known_members (context_view k.context) k.shape k.bytes.now) };
 
     fn fmt<W: fmt::Write>(&self, f: &mut fmt::Formatter<W>) -> fmt::Result {
         let (context, bytes) = (self.context, self.bytes);
@@ -171,7 +171,7 @@ impl fmt::Display for KnownMembers<'_, '_, '_> {
 pub(crate) struct BodyMembers<'b, 'w, 't>(pub Body<'b, 'w, 't>);
 
 impl fmt::Display for BodyMembers<'_, '_, '_> {
-    ghost output = { λ b. Some (body_members (body_seen b.0)) };
+    ghost output = { λ b. Some (body_members (body_view b.0)) };
 
     fn fmt<W: fmt::Write>(&self, f: &mut fmt::Formatter<W>) -> fmt::Result {
         let generic = GenericMembers(self.0.generic);
@@ -338,7 +338,7 @@ impl<'b, 'w, 't> KnownText<'b, 'w, 't> {
 }
 
 impl fmt::Display for KnownText<'_, '_, '_> {
-    ghost output = { λ k. Some (known_text k.is_coloured k.level (context_seen k.context) k.shape
+    ghost output = { λ k. Some (known_text k.is_coloured k.level (context_view k.context) k.shape
         k.bytes.now) };
 
     fn fmt<W: fmt::Write>(&self, f: &mut fmt::Formatter<W>) -> fmt::Result {
@@ -392,7 +392,7 @@ pub(crate) struct BodyText<'b, 'w, 't> {
 }
 
 impl fmt::Display for BodyText<'_, '_, '_> {
-    ghost output = { λ b. Some (body_text b.is_coloured b.level (body_seen b.body)) };
+    ghost output = { λ b. Some (body_text b.is_coloured b.level (body_view b.body)) };
 
     fn fmt<W: fmt::Write>(&self, f: &mut fmt::Formatter<W>) -> fmt::Result {
         let level = self.level;

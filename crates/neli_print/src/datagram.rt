@@ -1,7 +1,7 @@
 //! A datagram: messages, and the fault after them.
 
 ghost use Rattle.std.specs.Prelude.{◌≡◌, Some};
-ghost use Rattle.neli_lent.specs.Messages.{message_said};
+ghost use Rattle.neli_lent.specs.Messages.{message_view};
 ghost use Rattle.neli_print.specs.Messages.{datagram_json, datagram_text, fault_json, fault_line};
 ghost use Rattle.neli_print.specs.Messages.{place_behind};
 
@@ -27,7 +27,7 @@ pub struct Datagram<'b, 'w, 't> {
 
 /// The place behind a message that begins at this one, at most the largest `u64`.
 fn place_behind(place: u64, message: &LentMessage<'_, u16>) -> u64
-    ensures { result ≡ place_behind place (message_said message.now) }
+    ensures { result ≡ place_behind place (message_view message.now) }
 {
     let length = padded_length(*message.nl_len() as usize);
     place.saturating_add(length as u64)

@@ -2,7 +2,7 @@
 //! 0x100 on depends on the type of the message.
 
 ghost use Rattle.std.specs.Prelude.{◌≡◌, map};
-ghost use Rattle.neli_print.specs.MessageFlags.{flag_rows, flag_seen};
+ghost use Rattle.neli_print.specs.MessageFlags.{flag_rows, flag_view};
 
 /// A flag: its bits, and its name without `NLM_F_`.
 pub(crate) type Row = (u32, &'static str);
@@ -84,7 +84,7 @@ static ANSWERING: [Row; 8] = [
 /// of routing come in fours: new, delete, get and set. In other protocols a request for a dump has
 /// the flag DUMP.
 pub(crate) fn flag_rows(is_route: bool, number: u16) -> &'static [Row]
-    ensures { map flag_seen result.now ≡ flag_rows is_route number }
+    ensures { map flag_view result.now ≡ flag_rows is_route number }
 {
     // NLMSG_ERROR and NLMSG_DONE.
     if number == 2 || number == 3 {

@@ -3,7 +3,7 @@
 ghost use Rattle.std.specs.Prelude.{◌≡◌, Some, map};
 ghost use Rattle.neli_print.specs.Flags.{after_flag, all_left, closing, flag_text, flags_from};
 ghost use Rattle.neli_print.specs.Flags.{is_named, mark, rest_text};
-ghost use Rattle.neli_print.specs.MessageFlags.{flag_seen};
+ghost use Rattle.neli_print.specs.MessageFlags.{flag_view};
 
 use crate::flag_rows::Row;
 use crate::pieces::When;
@@ -54,7 +54,7 @@ impl FlagForm {
 
 /// Whether a row is printed: the set has all of its bits, and some of them are left.
 fn is_named(row: &Row, set: u32, left: u32) -> bool
-    ensures { result ≡ is_named (flag_seen row.now) set left }
+    ensures { result ≡ is_named (flag_view row.now) set left }
 {
     set & row.0 == row.0 && left & row.0 != 0
 }
@@ -62,7 +62,7 @@ fn is_named(row: &Row, set: u32, left: u32) -> bool
 impl Left {
     /// What is left after a row.
     fn after(self, row: &Row, set: u32) -> Left
-        ensures { result ≡ after_flag (flag_seen row.now) set self }
+        ensures { result ≡ after_flag (flag_view row.now) set self }
     {
         if is_named(row, set, self.bits) {
             Left {
@@ -85,7 +85,7 @@ struct Flag<'r> {
 }
 
 impl fmt::Display for Flag<'_> {
-    ghost output = { λ r. Some (flag_text r.form r.set r.left (flag_seen r.row.now)) };
+    ghost output = { λ r. Some (flag_text r.form r.set r.left (flag_view r.row.now)) };
 
     fn fmt<W: fmt::Write>(&self, f: &mut fmt::Formatter<W>) -> fmt::Result {
         if is_named(self.row, self.set, self.left.bits) {
@@ -134,7 +134,7 @@ pub(crate) struct Flags {
 
 impl fmt::Display for Flags {
     ghost output = { λ s. Some (flags_from s.form s.set (all_left s.set)
-        (map flag_seen s.rows.now)) };
+        (map flag_view s.rows.now)) };
 
     fn fmt<W: fmt::Write>(&self, f: &mut fmt::Formatter<W>) -> fmt::Result {
         let mut left = Left {

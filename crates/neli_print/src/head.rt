@@ -4,7 +4,7 @@ ghost use Rattle.std.specs.Prelude.{◌≡◌, Some, map};
 ghost use Rattle.std.specs.Option.{option_map};
 ghost use Rattle.neli_print.specs.Heads.{common_name, header_in, header_members, header_of};
 ghost use Rattle.neli_print.specs.Heads.{header_text, rows_of, type_words};
-ghost use Rattle.neli_print.specs.MessageFlags.{flag_seen};
+ghost use Rattle.neli_print.specs.MessageFlags.{flag_view};
 
 use crate::flag_rows::flag_rows;
 use crate::flags::{FlagForm, Flags};
@@ -78,7 +78,7 @@ impl Header {
     /// Its flags by their names.
     fn flags(&self, form: FlagForm) -> Flags
         ensures form { result.form ≡ form }
-        ensures rows { map flag_seen result.rows.now ≡ rows_of self.now.head }
+        ensures rows { map flag_view result.rows.now ≡ rows_of self.now.head }
         ensures set { result.set ≡ self.now.head.flags.0 }
     {
         Flags {

@@ -1,9 +1,9 @@
 //! An item of a walk, whatever the form that prints it.
 
 ghost use Rattle.std.specs.Prelude.{◌≡◌, ◌^◌, ◌≤◌, take};
-ghost use Rattle.neli_tables_walk.specs.Visited.{visit_seen, visited};
-ghost use Rattle.neli_tables_walk.specs.Walks.{content_seen, item_seen};
-ghost use Rattle.neli_print.specs.Items.{after_item, after_visit, depth_in, entry_seen};
+ghost use Rattle.neli_tables_walk.specs.Visited.{visit_view, visited};
+ghost use Rattle.neli_tables_walk.specs.Walks.{content_view, item_view};
+ghost use Rattle.neli_print.specs.Items.{after_item, after_visit, depth_in, entry_view};
 ghost use Rattle.neli_print.specs.Items.{opens_list};
 
 use neli_tables_walk::{Found, Item, Rest, Shape, Step, Visit};
@@ -23,7 +23,7 @@ pub(crate) struct Entry<'i, 'b> {
 impl<'i, 'b> Entry<'i, 'b> {
     /// The entry of an item with its path.
     pub(crate) fn of_item(item: &'i Item<'b>) -> Entry<'i, 'b>
-        ensures seen { entry_seen result ≡ visited (item_seen item.now) }
+        ensures seen { entry_view result ≡ visited (item_view item.now) }
         ensures few { result.lists ≤ 2 ^ 63 }
     {
         let steps = item.path.steps();
@@ -40,7 +40,7 @@ impl<'i, 'b> Entry<'i, 'b> {
 
     /// The entry of an item without its path.
     pub(crate) fn of_visit(visit: &'i Visit<'b>) -> Entry<'i, 'b>
-        ensures seen { entry_seen result ≡ visit_seen visit.now }
+        ensures seen { entry_view result ≡ visit_view visit.now }
         ensures lists { result.lists ≡ visit.now.lists }
     {
         Entry {
@@ -53,7 +53,7 @@ impl<'i, 'b> Entry<'i, 'b> {
 
 /// Whether items in a list come next: those of a nest, or hops.
 fn opens_list(content: &Result<Found<'_>, Rest<'_>>) -> bool
-    ensures { result ≡ opens_list (content_seen content.now) }
+    ensures { result ≡ opens_list (content_view content.now) }
 {
     match content {
         Ok(found) => matches!(found.shape, Shape::Nest(_) | Shape::Hops(_)),
@@ -97,7 +97,7 @@ impl Open {
 
     /// What is open after an item.
     pub fn after(&self, item: &Item<'_>) -> Open
-        ensures { result ≡ after_item self.now (item_seen item.now) }
+        ensures { result ≡ after_item self.now (item_view item.now) }
     {
         self.after_entry(Entry::of_item(item))
     }
@@ -105,7 +105,7 @@ impl Open {
     /// What is open after an entry.
     pub(crate) fn after_entry(&self, item: Entry<'_, '_>) -> Open
         requires { item.lists ≤ 2 ^ 63 }
-        ensures { result ≡ after_visit self.now (entry_seen item.entry) }
+        ensures { result ≡ after_visit self.now (entry_view item.entry) }
     {
         let depth = self.depth(item.lists);
         if opens_list(item.content) {

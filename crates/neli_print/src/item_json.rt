@@ -1,8 +1,8 @@
 //! An item of a walk in JSON.
 
 ghost use Rattle.std.specs.Prelude.{Some};
-ghost use Rattle.neli_tables_walk.specs.Walks.{item_seen};
-ghost use Rattle.neli_print.specs.Items.{entry_seen};
+ghost use Rattle.neli_tables_walk.specs.Walks.{item_view};
+ghost use Rattle.neli_print.specs.Items.{entry_view};
 ghost use Rattle.neli_print.specs.ItemsJson.{breach_member, content_json, element_json, item_json};
 ghost use Rattle.neli_print.specs.ItemsJson.{label_json, left_json, row_json, value_json};
 ghost use Rattle.neli_print.specs.ItemsJson.{visit_json};
@@ -225,7 +225,7 @@ pub struct ItemJson<'i, 'b, 'w, 't> {
 }
 
 impl fmt::Display for ItemJson<'_, '_, '_, '_> {
-    ghost output = { λ i. Some (item_json i.table.now i.open (item_seen i.item.now)) };
+    ghost output = { λ i. Some (item_json i.table.now i.open (item_view i.item.now)) };
 
     fn fmt<W: fmt::Write>(&self, f: &mut fmt::Formatter<W>) -> fmt::Result {
         let json = EntryJson {
@@ -247,7 +247,7 @@ pub(crate) struct EntryJson<'i, 'b, 'w, 't> {
 }
 
 impl fmt::Display for EntryJson<'_, '_, '_, '_> {
-    ghost output = { λ e. Some (visit_json e.table.now e.open (entry_seen e.entry)) };
+    ghost output = { λ e. Some (visit_json e.table.now e.open (entry_view e.entry)) };
 
     fn fmt<W: fmt::Write>(&self, f: &mut fmt::Formatter<W>) -> fmt::Result {
         let depth = self.open.depth(self.entry.lists);

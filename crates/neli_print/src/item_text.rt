@@ -3,8 +3,8 @@
 ghost use Rattle.std.specs.Prelude.{Some};
 ghost use Rattle.std.specs.Option.{option_map};
 ghost use Rattle.neli_tables_walk.specs.Names.{line_name};
-ghost use Rattle.neli_tables_walk.specs.Walks.{item_seen};
-ghost use Rattle.neli_print.specs.Items.{entry_seen};
+ghost use Rattle.neli_tables_walk.specs.Walks.{item_view};
+ghost use Rattle.neli_print.specs.Items.{entry_view};
 ghost use Rattle.neli_print.specs.ItemsText.{breach_words, content_text, element_text, index_words};
 ghost use Rattle.neli_print.specs.ItemsText.{item_text, label_text, left_text, name_words};
 ghost use Rattle.neli_print.specs.ItemsText.{row_words, visit_text};
@@ -280,7 +280,7 @@ pub struct ItemText<'i, 'b, 'w, 't> {
 
 impl fmt::Display for ItemText<'_, '_, '_, '_> {
     ghost output = { λ i. Some (item_text i.is_coloured i.table.now i.level
-        (item_seen i.item.now)) };
+        (item_view i.item.now)) };
 
     fn fmt<W: fmt::Write>(&self, f: &mut fmt::Formatter<W>) -> fmt::Result {
         let text = EntryText {
@@ -304,7 +304,7 @@ pub(crate) struct EntryText<'i, 'b, 'w, 't> {
 
 impl fmt::Display for EntryText<'_, '_, '_, '_> {
     ghost output = { λ e. Some (visit_text e.is_coloured e.table.now e.level
-        (entry_seen e.entry)) };
+        (entry_view e.entry)) };
 
     fn fmt<W: fmt::Write>(&self, f: &mut fmt::Formatter<W>) -> fmt::Result {
         let around = indent(self.level);

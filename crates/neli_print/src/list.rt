@@ -1,7 +1,7 @@
 //! The attributes of a body.
 
 ghost use Rattle.std.specs.Prelude.{Some};
-ghost use Rattle.neli_tables_walk.specs.Shapes.{context_seen};
+ghost use Rattle.neli_tables_walk.specs.Shapes.{context_view};
 ghost use Rattle.neli_print.specs.Lists.{list_items_json, list_member, list_text};
 
 use crate::item::{Entry, Open};
@@ -29,7 +29,7 @@ pub(crate) struct ListText<'b, 'w, 't> {
 }
 
 impl fmt::Display for ListText<'_, '_, '_> {
-    ghost output = { λ l. Some (list_text l.is_coloured l.level (context_seen l.list.context)
+    ghost output = { λ l. Some (list_text l.is_coloured l.level (context_view l.list.context)
         l.list.nest l.list.bytes.now) };
 
     fn fmt<W: fmt::Write>(&self, f: &mut fmt::Formatter<W>) -> fmt::Result {
@@ -56,7 +56,7 @@ impl fmt::Display for ListText<'_, '_, '_> {
 struct ListItems<'b, 'w, 't>(List<'b, 'w, 't>);
 
 impl fmt::Display for ListItems<'_, '_, '_> {
-    ghost output = { λ l. Some (list_items_json (context_seen l.0.context) l.0.nest
+    ghost output = { λ l. Some (list_items_json (context_view l.0.context) l.0.nest
         l.0.bytes.now) };
 
     fn fmt<W: fmt::Write>(&self, f: &mut fmt::Formatter<W>) -> fmt::Result {
@@ -89,7 +89,7 @@ impl fmt::Display for ListItems<'_, '_, '_> {
 pub(crate) struct ListMember<'b, 'w, 't>(pub List<'b, 'w, 't>);
 
 impl fmt::Display for ListMember<'_, '_, '_> {
-    ghost output = { λ l. Some (list_member (context_seen l.0.context) l.0.nest l.0.bytes.now) };
+    ghost output = { λ l. Some (list_member (context_view l.0.context) l.0.nest l.0.bytes.now) };
 
     fn fmt<W: fmt::Write>(&self, f: &mut fmt::Formatter<W>) -> fmt::Result {
         let items = ListItems(self.0);

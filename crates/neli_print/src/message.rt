@@ -1,8 +1,8 @@
 //! A message.
 
 ghost use Rattle.std.specs.Prelude.{◌≡◌, Some};
-ghost use Rattle.neli_lent.specs.Messages.{message_said};
-ghost use Rattle.neli_tables_walk.specs.Bodies.{body_seen};
+ghost use Rattle.neli_lent.specs.Messages.{message_view};
+ghost use Rattle.neli_tables_walk.specs.Bodies.{body_view};
 ghost use Rattle.neli_print.specs.Heads.{header_of};
 ghost use Rattle.neli_print.specs.Messages.{lines_with, members_with, message_json};
 ghost use Rattle.neli_print.specs.Messages.{message_text};
@@ -35,8 +35,8 @@ impl<'b, 'w, 't> Message<'b, 'w, 't> {
         message: &LentMessage<'b, u16>,
     ) -> Message<'b, 'w, 't>
         ensures tables { result.tables.now ≡ tables.now }
-        ensures header { result.header ≡ header_of protocol (message_said message.now).0 }
-        ensures payload { result.payload.now ≡ (message_said message.now).1 }
+        ensures header { result.header ≡ header_of protocol (message_view message.now).0 }
+        ensures payload { result.payload.now ≡ (message_view message.now).1 }
     {
         Message {
             tables,
@@ -55,7 +55,7 @@ struct ContentMembers<'b, 'w, 't> {
 
 impl fmt::Display for ContentMembers<'_, '_, '_> {
     ghost output = { λ c. Some (members_with c.message.tables.now c.message.header.head
-        c.message.payload.now (body_seen c.body)) };
+        c.message.payload.now (body_view c.body)) };
 
     fn fmt<W: fmt::Write>(&self, f: &mut fmt::Formatter<W>) -> fmt::Result {
         let Message {
@@ -115,7 +115,7 @@ struct ContentLines<'b, 'w, 't> {
 
 impl fmt::Display for ContentLines<'_, '_, '_> {
     ghost output = { λ c. Some (lines_with c.is_coloured c.message.tables.now
-        c.message.header.head c.message.payload.now (body_seen c.body)) };
+        c.message.header.head c.message.payload.now (body_view c.body)) };
 
     fn fmt<W: fmt::Write>(&self, f: &mut fmt::Formatter<W>) -> fmt::Result {
         let is_coloured = self.is_coloured;

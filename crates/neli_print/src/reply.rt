@@ -2,8 +2,8 @@
 
 ghost use Rattle.std.specs.Prelude.{◌≡◌, Some};
 ghost use Rattle.std.specs.Option.{option_map};
-ghost use Rattle.neli_errno.specs.Errnos.{errno_seen};
-ghost use Rattle.neli_print.specs.Answers.{bytes_seen};
+ghost use Rattle.neli_errno.specs.Errnos.{errno_view};
+ghost use Rattle.neli_print.specs.Answers.{bytes_view};
 ghost use Rattle.neli_print.specs.Replies.{attributes_lines, attributes_members, code_line};
 ghost use Rattle.neli_print.specs.Replies.{code_members, echo_lines, echo_members, errno_in};
 ghost use Rattle.neli_print.specs.Replies.{reply_lines, reply_members, request_lines};
@@ -23,7 +23,7 @@ use std::fmt;
 
 /// The error of a code below 0, if it has a name.
 fn errno_in(code: i32) -> Option<Errno>
-    ensures { option_map errno_seen result ≡ errno_in code }
+    ensures { option_map errno_view result ≡ errno_in code }
 {
     if code < 0 {
         Errno::from_number(code.unsigned_abs())
@@ -62,7 +62,7 @@ struct EchoMembers<'b, 'w, 't> {
 }
 
 impl fmt::Display for EchoMembers<'_, '_, '_> {
-    ghost output = { λ e. Some (echo_members e.tables.now e.head (bytes_seen e.body)) };
+    ghost output = { λ e. Some (echo_members e.tables.now e.head (bytes_view e.body)) };
 
     fn fmt<W: fmt::Write>(&self, f: &mut fmt::Formatter<W>) -> fmt::Result {
         match self.body {
@@ -84,7 +84,7 @@ struct RequestMember<'b, 'w, 't> {
 
 impl fmt::Display for RequestMember<'_, '_, '_> {
     ghost output = { λ r. Some (request_member r.tables.now r.parts.request
-        (bytes_seen r.parts.body)) };
+        (bytes_view r.parts.body)) };
 
     fn fmt<W: fmt::Write>(&self, f: &mut fmt::Formatter<W>) -> fmt::Result {
         let Some(header) = self.parts.request else {
@@ -114,7 +114,7 @@ struct AttributesMembers<'b, 'w, 't> {
 }
 
 impl fmt::Display for AttributesMembers<'_, '_, '_> {
-    ghost output = { λ a. Some (attributes_members a.tables.now a.head (bytes_seen a.attributes)) };
+    ghost output = { λ a. Some (attributes_members a.tables.now a.head (bytes_view a.attributes)) };
 
     fn fmt<W: fmt::Write>(&self, f: &mut fmt::Formatter<W>) -> fmt::Result {
         match self.attributes {
@@ -193,7 +193,7 @@ struct EchoLines<'b, 'w, 't> {
 }
 
 impl fmt::Display for EchoLines<'_, '_, '_> {
-    ghost output = { λ e. Some (echo_lines e.is_coloured e.tables.now e.head (bytes_seen e.body)) };
+    ghost output = { λ e. Some (echo_lines e.is_coloured e.tables.now e.head (bytes_view e.body)) };
 
     fn fmt<W: fmt::Write>(&self, f: &mut fmt::Formatter<W>) -> fmt::Result {
         match self.body {
@@ -220,7 +220,7 @@ struct RequestLines<'b, 'w, 't> {
 
 impl fmt::Display for RequestLines<'_, '_, '_> {
     ghost output = { λ r. Some (request_lines r.is_coloured r.tables.now r.parts.request
-        (bytes_seen r.parts.body)) };
+        (bytes_view r.parts.body)) };
 
     fn fmt<W: fmt::Write>(&self, f: &mut fmt::Formatter<W>) -> fmt::Result {
         let Some(header) = self.parts.request else {
@@ -254,7 +254,7 @@ struct AttributesLines<'b, 'w, 't> {
 
 impl fmt::Display for AttributesLines<'_, '_, '_> {
     ghost output = { λ a. Some (attributes_lines a.is_coloured a.tables.now a.head
-        (bytes_seen a.attributes)) };
+        (bytes_view a.attributes)) };
 
     fn fmt<W: fmt::Write>(&self, f: &mut fmt::Formatter<W>) -> fmt::Result {
         match self.attributes {

@@ -6,7 +6,7 @@ ghost use Rattle.neli_wire.specs.Frames.{frame_at};
 ghost use Rattle.neli_wire.specs.Place.{whole};
 ghost use Rattle.neli_wire.specs.Refusals.{Refuses};
 ghost use Rattle.neli_reader.specs.Agreement.{untyped_layout};
-ghost use Rattle.neli_lent.specs.Messages.{as_owned, as_owned_takes_memory, message_said};
+ghost use Rattle.neli_lent.specs.Messages.{as_owned, as_owned_takes_memory, message_view};
 ghost use Rattle.neli_program.specs.declared.line.Ending.TheVariants as line;
 ghost use Rattle.neli_program.specs.declared.status.Status.TheVariants as status;
 ghost use Rattle.neli_program.specs.Lines.{ending as ending_text};
@@ -53,11 +53,11 @@ pub(crate) fn ending_at(error: &DeError) -> Ending
 /// takes none.
 fn line_of(alloc: Global, message: &LentMessage<'_, u16>) -> Result<Line, DeError>
     ensures value { IfOk result
-        (IsLineOf (as_owned (λ n. n) (λ n. n) (λ b. Ok b) (message_said message.now))) }
+        (IsLineOf (as_owned (λ n. n) (λ n. n) (λ b. Ok b) (message_view message.now))) }
     ensures refused { IfErr result
-        (Refuses (as_owned (λ n. n) (λ n. n) (λ b. Ok b) (message_said message.now))
+        (Refuses (as_owned (λ n. n) (λ n. n) (λ b. Ok b) (message_view message.now))
         (as_owned_takes_memory (λ n. n) (λ b. Ok b) (λ b. 0 < length b)
-        (message_said message.now))) }
+        (message_view message.now))) }
     ensures body { message.now.header.message_type ≢ 2 → message.now.header.message_type ≢ 3
         → IsOk result }
 {

@@ -84,7 +84,7 @@ impl Queues {
         ensures port { kept_port self.new ≡ kept_port self.old }
         ensures ok { OnOk result (ListsGain (λ w. share_of_both for_multicast pieces.items w)
             (pending_of self.old) (pending_of self.new)) }
-        ensures err { OnErr result (self.new ≡ self.old) }
+        ensures unchanged { OnErr result (self.new ≡ self.old) }
     {
         if !have_room(&self.numbers, &pieces) {
             return Err(NoMemory);

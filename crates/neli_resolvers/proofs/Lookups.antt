@@ -25,7 +25,7 @@ use Rattle.neli_consts.specs.declared.genl.CtrlAttr.TheVariants.{FamilyId, Famil
 use Rattle.neli_consts.specs.declared.genl.CtrlAttrMcastGrp.{CtrlAttrMcastGrp}
 use Rattle.neli_consts.specs.declared.genl.CtrlAttrMcastGrp.TheVariants.{Name, Id}
 use Rattle.neli_attr.specs.Lookup.{list_found, payload_of_type, read_found}
-use Rattle.neli_attr.specs.Nlattr.{nlattr_says}
+use Rattle.neli_attr.specs.Nlattr.{nlattr_view}
 use Rattle.neli_attr.specs.declared.nlattr.Nlattr.{Nlattr}
 use Rattle.neli_attr.specs.Payloads.{ReadsFirst}
 use Rattle.neli_resolvers.specs.Attributes.{first_number, is_family_id, is_family_name, is_id, is_mcast_groups, is_name}
@@ -39,16 +39,16 @@ looked_up same kind attrs = payload_of_type (λ a. a.nla_type.nla_type) same (λ
 
 module _ {K : Type 0} (same : K → K → Bool) (kind : K) (is : K → Bool) (test : (k : K) → same k kind ≡ is k) where
   here_or_later : (a : Nlattr K (List ℕ)) (later : List (Nlattr K (List ℕ))) (b : Bool)
-      → looked_up same kind later ≡ payload_where is (map nlattr_says later)
+      → looked_up same kind later ≡ payload_where is (map nlattr_view later)
       → option_map (λ (x : Nlattr K (List ℕ)). x.nla_payload)
       (cond b (Some a) (find (λ x. same x.nla_type.nla_type kind) later))
-      ≡ option_map (λ x. x.1) (cond b (Some (nlattr_says a)) (find (λ x. is x.0.kind.nla_type) (map nlattr_says later)))
+      ≡ option_map (λ x. x.1) (cond b (Some (nlattr_view a)) (find (λ x. is x.0.kind.nla_type) (map nlattr_view later)))
   here_or_later a later true more = refl
   here_or_later a later false more = more
 
   -- it is the first attribute whose type passes the test
   pub looked_up-where : (attrs : List (Nlattr K (List ℕ)))
-      → looked_up same kind attrs ≡ payload_where is (map nlattr_says attrs)
+      → looked_up same kind attrs ≡ payload_where is (map nlattr_view attrs)
   looked_up-where [] = refl
   looked_up-where (a ∷ later) = rw (test a.nla_type.nla_type)
       (here_or_later a later (is a.nla_type.nla_type) (looked_up-where later))
@@ -74,23 +74,23 @@ tests_id Id = refl
 tests_id k = refl
 
 pub finds_family_id : (attrs : List (Nlattr CtrlAttr (List ℕ)))
-    → looked_up ctrl_attr.eq FamilyId attrs ≡ payload_where is_family_id (map nlattr_says attrs)
+    → looked_up ctrl_attr.eq FamilyId attrs ≡ payload_where is_family_id (map nlattr_view attrs)
 finds_family_id = looked_up-where ctrl_attr.eq FamilyId is_family_id tests_family_id
 
 pub finds_family_name : (attrs : List (Nlattr CtrlAttr (List ℕ)))
-    → looked_up ctrl_attr.eq FamilyName attrs ≡ payload_where is_family_name (map nlattr_says attrs)
+    → looked_up ctrl_attr.eq FamilyName attrs ≡ payload_where is_family_name (map nlattr_view attrs)
 finds_family_name = looked_up-where ctrl_attr.eq FamilyName is_family_name tests_family_name
 
 pub finds_mcast_groups : (attrs : List (Nlattr CtrlAttr (List ℕ)))
-    → looked_up ctrl_attr.eq McastGroups attrs ≡ payload_where is_mcast_groups (map nlattr_says attrs)
+    → looked_up ctrl_attr.eq McastGroups attrs ≡ payload_where is_mcast_groups (map nlattr_view attrs)
 finds_mcast_groups = looked_up-where ctrl_attr.eq McastGroups is_mcast_groups tests_mcast_groups
 
 pub finds_name : (attrs : List (Nlattr CtrlAttrMcastGrp (List ℕ)))
-    → looked_up mcast_grp.eq Name attrs ≡ payload_where is_name (map nlattr_says attrs)
+    → looked_up mcast_grp.eq Name attrs ≡ payload_where is_name (map nlattr_view attrs)
 finds_name = looked_up-where mcast_grp.eq Name is_name tests_name
 
 pub finds_id : (attrs : List (Nlattr CtrlAttrMcastGrp (List ℕ)))
-    → looked_up mcast_grp.eq Id attrs ≡ payload_where is_id (map nlattr_says attrs)
+    → looked_up mcast_grp.eq Id attrs ≡ payload_where is_id (map nlattr_view attrs)
 finds_id = looked_up-where mcast_grp.eq Id is_id tests_id
 
 -- ---- refusals
@@ -160,9 +160,9 @@ list_has_bytes read (Some []) all is some = let none : all ≡ [] = cc in absurd
 list_has_bytes read (Some (b ∷ s)) all is some = omega arith
 
 pub some_groups : (attrs : AttributesRead CtrlAttr) (all : List (Nlattr Index (List ℕ)))
-    → groups attrs ≡ Ok (map nlattr_says all) → 0 < length all → groups_take_memory attrs
-some_groups attrs all is some = list_has_bytes _ (payload_where is_mcast_groups attrs) (map nlattr_says all) is
-    (omega (arith, some, length-map all (λ (a : Nlattr Index (List ℕ)). nlattr_says a)))
+    → groups attrs ≡ Ok (map nlattr_view all) → 0 < length all → groups_take_memory attrs
+some_groups attrs all is some = list_has_bytes _ (payload_where is_mcast_groups attrs) (map nlattr_view all) is
+    (omega (arith, some, length-map all (λ (a : Nlattr Index (List ℕ)). nlattr_view a)))
 
 -- and so has a group with a name
 attrs_have_bytes : (group : List ℕ) (attrs : AttributesRead CtrlAttrMcastGrp)

@@ -7,7 +7,7 @@ use Rattle.std.specs.Result.{result_err, result_ok}
 use Rattle.neli_consts.specs.declared.genl.CtrlAttr.{CtrlAttr}
 use Rattle.neli_consts.specs.declared.genl.CtrlCmd.{CtrlCmd}
 use Rattle.neli_consts.specs.declared.genl.GenlId.{GenlId}
-use Rattle.neli_attr.specs.Nlattr.{nlattr_says}
+use Rattle.neli_attr.specs.Nlattr.{nlattr_view}
 use Rattle.neli_genl.specs.Genlmsghdr.{AttributesRead}
 use Rattle.neli_genl.specs.declared.genlmsghdr.Genlmsghdr.{Genlmsghdr}
 use Rattle.neli_genl.specs.declared.no_user_header.NoUserHeader.{NoUserHeader}
@@ -37,7 +37,7 @@ Item = Result Message Error
 
 -- the attributes of a message as they are read, if it has a payload
 abbrev pub attributes_said : Message → Option (AttributesRead CtrlAttr)
-attributes_said m = option_map (λ body. map nlattr_says body.attrs) (body_of m.payload)
+attributes_said m = option_map (λ body. map nlattr_view body.attrs) (body_of m.payload)
 
 -- the messages among the items
 abbrev pub messages : List Item → List Message

@@ -3,7 +3,7 @@
 ghost use Rattle.std.specs.Prelude.{◌≡◌, ◌<◌, Err, IfErr, IfOk, Ok, OnErr, None, length, map, option_map};
 ghost use Rattle.std.specs.Prelude.{string_bytes};
 ghost use Rattle.neli_wire.specs.Refusals.{Refuses};
-ghost use Rattle.neli_attr.specs.Nlattr.{nlattr_says};
+ghost use Rattle.neli_attr.specs.Nlattr.{nlattr_view};
 ghost use Rattle.neli_resolvers.specs.Attributes.{group_attrs_take_memory};
 ghost use Rattle.neli_resolvers.specs.Items.{first_found, last_found};
 ghost use Rattle.neli_resolvers.specs.Resolvers.{match_number, name_if};
@@ -23,8 +23,8 @@ fn match_number(
     group: &Nlattr<Index, Buffer>,
     name: &str,
 ) -> Result<Option<u32>, NoMemory>
-    ensures value { IfOk result (λ n. n ≡ match_number name.now (nlattr_says group.now)) }
-    ensures memory { OnErr result (group_attrs_take_memory (nlattr_says group.now)) }
+    ensures value { IfOk result (λ n. n ≡ match_number name.now (nlattr_view group.now)) }
+    ensures memory { OnErr result (group_attrs_take_memory (nlattr_view group.now)) }
 {
     let Some(attrs) = readable(group_attrs(alloc, group))? else {
         return Ok(None);
@@ -47,7 +47,7 @@ pub(crate) fn first_match(
     name: &str,
 ) -> Result<Option<u32>, NoMemory>
     ensures value { IfOk result
-        (λ n. n ≡ first_found (match_number name.now) (map nlattr_says groups.now)) }
+        (λ n. n ≡ first_found (match_number name.now) (map nlattr_view groups.now)) }
     ensures memory { OnErr result (0 < length groups.now) }
 {
     for candidate in groups {
@@ -62,9 +62,9 @@ pub(crate) fn first_match(
 /// The name of a group with this number.
 fn name_if(alloc: Global, group: &Nlattr<Index, Buffer>, id: u32) -> Result<Option<String>, DeError>
     ensures value { IfOk result
-        (λ name. name_if id (nlattr_says group.now) ≡ Ok (option_map string_bytes name)) }
-    ensures refused { IfErr result (Refuses (name_if id (nlattr_says group.now))
-        (group_attrs_take_memory (nlattr_says group.now))) }
+        (λ name. name_if id (nlattr_view group.now) ≡ Ok (option_map string_bytes name)) }
+    ensures refused { IfErr result (Refuses (name_if id (nlattr_view group.now))
+        (group_attrs_take_memory (nlattr_view group.now))) }
 {
     let attrs = group_attrs(alloc, group)?;
     if group_id(alloc, &attrs) != Some(id) {
@@ -80,10 +80,10 @@ pub(crate) fn last_name(
     id: u32,
 ) -> Result<Option<String>, DeError>
     ensures value { IfOk result
-        (λ name. last_found (name_if id) (map nlattr_says groups.now)
+        (λ name. last_found (name_if id) (map nlattr_view groups.now)
         ≡ Ok (option_map string_bytes name)) }
     ensures refused { IfErr result
-        (Refuses (last_found (name_if id) (map nlattr_says groups.now))
+        (Refuses (last_found (name_if id) (map nlattr_view groups.now))
         (0 < length groups.now)) }
 {
     let mut found = None;

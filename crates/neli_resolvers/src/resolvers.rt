@@ -3,7 +3,7 @@
 ghost use Rattle.std.specs.Prelude.{◌≡◌, Err, IfErr, IfOk, IsSome, Ok, OnErr, None, map, option_map, string_bytes};
 ghost use Rattle.neli_wire.specs.Refusals.{Refuses};
 ghost use Rattle.neli_attr.specs.Handles.{attrs_in};
-ghost use Rattle.neli_attr.specs.Nlattr.{nlattr_says};
+ghost use Rattle.neli_attr.specs.Nlattr.{nlattr_view};
 ghost use Rattle.neli_resolvers.specs.Attributes.{family_name_takes_memory};
 ghost use Rattle.neli_resolvers.specs.Items.{IsRefusal, attributes_said};
 ghost use Rattle.neli_resolvers.specs.Resolvers.{both_answer, family_answer, family_takes_memory, group_answer};
@@ -156,11 +156,11 @@ fn names_said(
     attrs: &GenlAttrHandle<'_, CtrlAttr>,
     id: u32,
 ) -> Result<Option<(String, String)>, DeError>
-    ensures value { IfOk result (λ names. names_said id (map nlattr_says (attrs_in attrs.now))
+    ensures value { IfOk result (λ names. names_said id (map nlattr_view (attrs_in attrs.now))
         ≡ Ok (option_map (λ p. (string_bytes p.0, string_bytes p.1)) names)) }
     ensures refused { IfErr result
-        (Refuses (names_said id (map nlattr_says (attrs_in attrs.now)))
-        (family_name_takes_memory (map nlattr_says (attrs_in attrs.now)))) }
+        (Refuses (names_said id (map nlattr_view (attrs_in attrs.now)))
+        (family_name_takes_memory (map nlattr_view (attrs_in attrs.now)))) }
 {
     let family = family_name(alloc, attrs)?;
     let Some(all) = readable(groups(alloc, attrs))? else {

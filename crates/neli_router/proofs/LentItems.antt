@@ -17,7 +17,7 @@ use Rattle.neli_reader.specs.NlPayload.TheVariants as payload
 use Rattle.neli_reader.specs.Nlmsgerr.{Nlmsgerr}
 use Rattle.neli_reader.specs.RouterError.TheVariants as router
 use Rattle.neli_reader.specs.SocketError.{SocketError}
-use Rattle.neli_lent.specs.Messages.{Lent, message_said}
+use Rattle.neli_lent.specs.Messages.{Lent, message_view}
 use Rattle.neli_lent.specs.declared.message.LentMessage.{LentMessage}
 use Rattle.neli_deliveries.specs.declared.delivery.Delivery.{Delivery}
 use Rattle.neli_deliveries.specs.declared.delivery.Delivery.TheVariants as delivery
@@ -152,7 +152,7 @@ end-by false k c true false false s p is apart empty = sym (ap end_code is)
 end-by false k c false z m s p is apart empty = sym (ap end_code is)
 
 -- the item where the answers end
-module _ (needs single : Bool) (w : LentMessage ℕ) (u : Nlmsghdr ℕ (List ℕ)) (lends : Lends (message_said w) u) where
+module _ (needs single : Bool) (w : LentMessage ℕ) (u : Nlmsghdr ℕ (List ℕ)) (lends : Lends (message_view w) u) where
   abbrev last_by : Bool → Bool → LentItem
   last_by a k =
       if a then (if k then (if needs then Ok w else Err error.UnexpectedAck)
@@ -241,16 +241,16 @@ module _ (m : Lent ℕ) (u : Nlmsghdr ℕ (List ℕ)) (lends : Lends m u) where
 
 -- ---- the item that is lent
 
-module _ (w : LentMessage ℕ) (u : Nlmsghdr ℕ (List ℕ)) (lends : Lends (message_said w) u)
+module _ (w : LentMessage ℕ) (u : Nlmsghdr ℕ (List ℕ)) (lends : Lends (message_view w) u)
     (needs numbered single : Bool) where
   last_lent : IsLentItem (last_item needs single (Ok u)) (lent_last needs single w)
   last_lent = last-by needs single w u lends u.payload refl (nat_eq w.header.message_type 2) (is_acknowledged w.payload.now)
       (is_capped w.header.flags) (nat_eq w.header.message_type 3) (nat_eq (length w.payload.now) 0)
-      (is_multi w.header.flags) (one (message_said w) u lends).form
+      (is_multi w.header.flags) (one (message_view w) u lends).form
 
   pub message_lent : IsLentItem (item_of same needs numbered single (Ok u))
       (lent_item needs numbered single (lent.Message w))
-  message_lent = rw (ends-is (message_said w) u lends needs numbered single)
+  message_lent = rw (ends-is (message_view w) u lends needs numbered single)
       (by (ends_at same needs numbered single (Ok u)))
     where
       by : (b : Bool) → IsLentItem (if b then last_item needs single (Ok u) else Ok u)
@@ -291,8 +291,8 @@ pub record StandAlike (item : Item ℕ (List ℕ)) (l : LentItem) : Type 0 where
 
 alike : (item : Item ℕ (List ℕ)) (l : LentItem) → IsLentItem item l → StandAlike item l
 alike item (Ok w) is = record {
-  flagged = λ flag. rw is.2 (ap (λ (n : ℕ). n == flag) (flag-is (message_said w) is.0 is.1 flag));
-  last = rw is.2 (ap code_verdict (end-is (message_said w) is.0 is.1));
+  flagged = λ flag. rw is.2 (ap (λ (n : ℕ). n == flag) (flag-is (message_view w) is.0 is.1 flag));
+  last = rw is.2 (ap code_verdict (end-is (message_view w) is.0 is.1));
 }
 alike item (Err (error.Answer code w)) is =
     let s = code_stands code is.0.payload item is.2 in
@@ -332,13 +332,13 @@ pub record IsStep (needs numbered single : Bool) (item : Item ℕ (List ℕ)) (s
 pub step_is : (needs numbered single : Bool) (d : Delivery) (l : LentDelivery) → IsLent d l
     → IsStep needs numbered single (untyped d) (lent_step needs numbered single l)
 step_is needs numbered single (delivery.Message u) (lent.Message w) is = record {
-  single_is = single-is (message_said w) u is numbered;
-  ended_is = ends-is (message_said w) u is needs numbered single;
-  heard_is = λ h. noted (lent_ends needs numbered single (message_said w))
+  single_is = single-is (message_view w) u is numbered;
+  ended_is = ends-is (message_view w) u is needs numbered single;
+  heard_is = λ h. noted (lent_ends needs numbered single (message_view w))
       (ends_exchange needs w.header.message_type w.header.flags)
       (item_of same needs numbered single (Ok u)) (lent_item needs numbered single (lent.Message w))
-      (lent_single numbered (message_said w)) h (message_lent w u is needs numbered single)
-      ∙ rw (ends-is (message_said w) u is needs numbered single, last-is (message_said w) u is needs numbered) refl;
+      (lent_single numbered (message_view w)) h (message_lent w u is needs numbered single)
+      ∙ rw (ends-is (message_view w) u is needs numbered single, last-is (message_view w) u is needs numbered) refl;
 }
 step_is needs numbered single (delivery.Stray u) (lent.Stray w) is = record {
   single_is = refl;

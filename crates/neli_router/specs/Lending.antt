@@ -9,7 +9,7 @@ use Rattle.neli_reader.specs.NlPayload.{NlPayload}
 use Rattle.neli_reader.specs.NlPayload.TheVariants as payload
 use Rattle.neli_reader.specs.Retyping.{IsTyped, IsTypedError}
 use Rattle.neli_reader.specs.RouterError.TheVariants as router
-use Rattle.neli_lent.specs.Messages.{Lent, message_said}
+use Rattle.neli_lent.specs.Messages.{Lent, message_view}
 use Rattle.neli_lent.specs.declared.message.LentMessage.{LentMessage}
 use Rattle.neli_deliveries.specs.declared.delivery.Delivery.{Delivery}
 use Rattle.neli_deliveries.specs.declared.delivery.Delivery.TheVariants as delivery
@@ -47,13 +47,13 @@ LentItem = Result (LentMessage ℕ) LentError
 
 -- the lent item is this one
 abbrev pub IsLentItem : Item ℕ (List ℕ) → LentItem → Type 0
-IsLentItem item (Ok m) = (u : Nlmsghdr ℕ (List ℕ)) × Lends (message_said m) u × (item ≡ Ok u)
+IsLentItem item (Ok m) = (u : Nlmsghdr ℕ (List ℕ)) × Lends (message_view m) u × (item ≡ Ok u)
 IsLentItem item (Err (error.Answer code m)) =
-    (u : Nlmsghdr ℕ (List ℕ)) × Lends (message_said m) u × IsErrorOf code u.payload item
+    (u : Nlmsghdr ℕ (List ℕ)) × Lends (message_view m) u × IsErrorOf code u.payload item
 IsLentItem item (Err error.NoAck) = item ≡ Err router.NoAck
 IsLentItem item (Err error.UnexpectedAck) = item ≡ Err router.UnexpectedAck
 IsLentItem item (Err (error.BadSeqOrPid m)) =
-    (u : Nlmsghdr ℕ (List ℕ)) × Lends (message_said m) u × (item ≡ Err (router.BadSeqOrPid u))
+    (u : Nlmsghdr ℕ (List ℕ)) × Lends (message_view m) u × (item ≡ Err (router.BadSeqOrPid u))
 IsLentItem item (Err (error.Socket e)) = item ≡ Err (router.Socket e.now)
 IsLentItem item (Err error.ClosedChannel) = item ≡ Err router.ClosedChannel
 
@@ -81,14 +81,14 @@ lent_ends needs numbered after m = lent_answers m || (if needs then after else l
 
 abbrev pub lent_last : Bool → Bool → LentMessage ℕ → LentItem
 lent_last needs after m =
-    if lent_answers (message_said m) then (if is_acknowledged m.payload.now
+    if lent_answers (message_view m) then (if is_acknowledged m.payload.now
     then (if needs then Ok m else Err error.UnexpectedAck)
     else (if after then Err error.NoAck else Err (error.Answer (code_or_zero m.payload.now) m)))
     else (if after then Err error.NoAck else Ok m)
 
 abbrev pub lent_item : Bool → Bool → Bool → LentDelivery → LentItem
 lent_item needs numbered after (lent.Message m) =
-    if lent_ends needs numbered after (message_said m) then lent_last needs after m else Ok m
+    if lent_ends needs numbered after (message_view m) then lent_last needs after m else Ok m
 lent_item needs numbered after (lent.Stray m) = Err (error.BadSeqOrPid m)
 lent_item needs numbered after (lent.Fault e) = Err (error.Socket e)
 
@@ -108,7 +108,7 @@ is_lent_flagged flag (Ok m) = bit_and m.header.flags.0 flag == flag
 is_lent_flagged flag (Err e) = false
 
 abbrev pub lent_last_verdict : LentItem → Verdict
-lent_last_verdict (Ok m) = code_verdict (lent_end_code (message_said m))
+lent_last_verdict (Ok m) = code_verdict (lent_end_code (message_view m))
 lent_last_verdict (Err e) = lent_error_verdict e
 
 abbrev pub lent_verdict : Bool → LentItem → Verdict
@@ -129,7 +129,7 @@ step_by single ended last l = record {
 
 abbrev pub lent_step : Bool → Bool → Bool → LentDelivery → Step
 lent_step needs numbered after (lent.Message m) =
-    step_by (lent_single numbered (message_said m)) (lent_ends needs numbered after (message_said m))
+    step_by (lent_single numbered (message_view m)) (lent_ends needs numbered after (message_view m))
     (ends_exchange needs m.header.message_type m.header.flags) (lent_item needs numbered after (lent.Message m))
 lent_step needs numbered after d = step_by false true false (lent_item needs numbered after d)
 

@@ -5,7 +5,7 @@ ghost use Rattle.std.specs.Prelude.{Option, OnErr, OnOk, is_some, option_map, if
 ghost use Rattle.std.specs.List.{list_any};
 ghost use Rattle.neli_reader.specs.Agreement.{untyped_layout};
 ghost use Rattle.neli_reader.specs.Cuts.{cut_of};
-ghost use Rattle.neli_lent.specs.Messages.{message_said, messages_in};
+ghost use Rattle.neli_lent.specs.Messages.{message_view, messages_in};
 ghost use Rattle.neli_deliveries.specs.Lists.{SameLists, SameListsBut};
 ghost use Rattle.neli_deliveries.specs.declared.delivery.Delivery.{Delivery as Waiting};
 ghost use Rattle.neli_deliveries.specs.Deliveries.{datagram_share, fault_share, is_would_block};
@@ -33,7 +33,7 @@ pub struct GivenUp {
 
 /// Whether a message is the last that answers this request.
 fn ends_it(port: u32, request: &GivenUp, message: &LentMessage<'_, u16>) -> bool
-    ensures { result ≡ ends_it port request.now (message_said message.now) }
+    ensures { result ≡ ends_it port request.now (message_view message.now) }
 {
     *message.nl_pid() == port
         && *message.nl_seq() == request.number
@@ -177,7 +177,7 @@ impl<D: Deliveries> NlRouter<D> {
             else option_map (λ _. []) (D.pending self.old.deliveries (Some q)))) }
         ensures left { OnOk result (self.new.given_up.items
             ≡ still_open (D.pending self.new.deliveries) self.old.given_up.items) }
-        ensures err { OnErr result ((self.new.given_up ≡ self.old.given_up)
+        ensures unchanged { OnErr result ((self.new.given_up ≡ self.old.given_up)
             × SameLists (D.pending self.old.deliveries) (D.pending self.new.deliveries)) }
         ensures empty { bytes.now ≡ [] → IsOk result }
     {
@@ -210,7 +210,7 @@ impl<D: Deliveries> NlRouter<D> {
         ensures left { OnOk result (self.new.given_up.items
             ≡ still_open (D.pending self.new.deliveries) self.old.given_up.items) }
         ensures missed { OnOk result (self.new.missed ≡ missed_with self.old.missed error) }
-        ensures err { OnErr result ((self.new.given_up ≡ self.old.given_up)
+        ensures unchanged { OnErr result ((self.new.given_up ≡ self.old.given_up)
             × (self.new.missed ≡ self.old.missed)
             × SameLists (D.pending self.old.deliveries) (D.pending self.new.deliveries)) }
         ensures would_block { is_would_block error ≡ true → IsOk result }
@@ -251,7 +251,7 @@ impl<D: Deliveries> NlRouter<D> {
         ensures given_up { IfOk result (λ finished. self.new.given_up.items
             ≡ (if finished then self.old.given_up.items
             else self.old.given_up.items ++ given_up number needs_ack ∷ [])) }
-        ensures err { OnErr result (self.new.given_up.items ≡ self.old.given_up.items) }
+        ensures unchanged { OnErr result (self.new.given_up.items ≡ self.old.given_up.items) }
     {
         let before = self.has_finished(number);
         let last = finishes(&mut self.deliveries, alloc, number, needs_ack)?;
@@ -295,7 +295,7 @@ impl<D: Deliveries> NlRouter<D> {
         ensures unheard { heard_of self.new.heard handle.number ≡ None }
         ensures heard { SameListsBut handle.number
             (heard_of self.old.heard) (heard_of self.new.heard) }
-        ensures err { OnErr result ((D.pending self.new.deliveries handle.number ≡ None)
+        ensures refused { OnErr result ((D.pending self.new.deliveries handle.number ≡ None)
             × (self.new.given_up.items
             ≡ still_open (D.pending self.new.deliveries) self.old.given_up.items)) }
     {

@@ -2,7 +2,7 @@
 
 ghost use Rattle.std.specs.Prelude.{true, false, ◌≡◌, ◌||◌, ◌∷◌, [], ℕ, List, None, Some, Err, option_map};
 ghost use Rattle.neli_reader.specs.Kinds.{is_acknowledged};
-ghost use Rattle.neli_lent.specs.Messages.{message_said};
+ghost use Rattle.neli_lent.specs.Messages.{message_view};
 ghost use Rattle.neli_deliveries.specs.Lists.{SameListsBut};
 ghost use Rattle.neli_deliveries.specs.declared.delivery.Delivery.{Delivery as Waiting};
 ghost use Rattle.neli_log.specs.Log.{pending_of};
@@ -74,7 +74,7 @@ fn is_acknowledgement(payload: &[u8]) -> bool
 
 /// Whether a lent message is a whole reply to a request, or the last message of one.
 fn is_single(numbered: bool, message: &LentMessage<'_, u16>) -> bool
-    ensures { result ≡ lent_single numbered (message_said message.now) }
+    ensures { result ≡ lent_single numbered (message_view message.now) }
 {
     let number = *message.nl_type();
     numbered
@@ -85,7 +85,7 @@ fn is_single(numbered: bool, message: &LentMessage<'_, u16>) -> bool
 /// Whether a handle's answers end at this message.
 fn ends(state: HandleState, message: &LentMessage<'_, u16>) -> bool
     ensures { result ≡ lent_ends state.needs_ack (has_number state.number) state.single_given
-        (message_said message.now) }
+        (message_view message.now) }
 {
     *message.nl_type() == NLMSG_ERROR
         || if state.needs_ack {
@@ -146,7 +146,7 @@ pub(crate) fn item_of<'b>(
 
 /// The code of the end of a dump, if a message is one; 0 of any other.
 fn end_code(message: &LentMessage<'_, u16>) -> i32
-    ensures { result ≡ lent_end_code (message_said message.now) }
+    ensures { result ≡ lent_end_code (message_view message.now) }
 {
     if *message.nl_type() == NLMSG_DONE && message.nl_flags().contains(NlmF::MULTI) {
         code_of(message.nl_payload())

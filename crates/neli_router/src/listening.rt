@@ -97,7 +97,7 @@ impl<D: Deliveries> NlRouter<D> {
         ensures left { OnOk result (self.new.given_up.items
             ≡ still_open (D.pending self.new.deliveries) self.old.given_up.items) }
         ensures missed { OnOk result (self.new.missed ≡ Some missed.Overrun) }
-        ensures err { OnErr result ((self.new.given_up ≡ self.old.given_up)
+        ensures unchanged { OnErr result ((self.new.given_up ≡ self.old.given_up)
             × (self.new.missed ≡ self.old.missed)
             × SameLists (D.pending self.old.deliveries) (D.pending self.new.deliveries)) }
         ensures unawaited { ((q : ℕ) → D.pending self.old.deliveries (Some q) ≡ None) → IsOk result }
@@ -133,7 +133,7 @@ impl<D: Deliveries> NlRouter<D> {
             × (D.pending self.new.deliveries None ≡ Some ds) × (self.new.missed ≡ None)) }
         ensures others { SameListsBut None
             (D.pending self.old.deliveries) (D.pending self.new.deliveries) }
-        ensures err { OnErr result (self.new ≡ self.old) }
+        ensures unchanged { OnErr result (self.new ≡ self.old) }
     {
         if let Some(missed) = self.missed {
             self.missed = None;

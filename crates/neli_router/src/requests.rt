@@ -58,7 +58,7 @@ impl<D: Deliveries> NlRouter<D> {
         ensures asked { IfOk result (λ r. Asks NlmF.ACK r.1 self.old.next_seq self.new.next_seq
             (D.pending self.old.deliveries) (D.pending self.new.deliveries)
             (heard_of self.old.heard) (heard_of self.new.heard)) }
-        ensures err { OnErr result (AsksNothing self.old.next_seq self.new.next_seq
+        ensures unchanged { OnErr result (AsksNothing self.old.next_seq self.new.next_seq
             (D.pending self.old.deliveries) (D.pending self.new.deliveries)
             (heard_of self.old.heard) (heard_of self.new.heard)) }
         ensures given_up { self.new.given_up ≡ self.old.given_up }
@@ -107,7 +107,7 @@ impl<D: Deliveries> NlRouter<D> {
         ensures asked { IfOk result (λ r. Asks NlmF.DUMP r.1 self.old.next_seq self.new.next_seq
             (D.pending self.old.deliveries) (D.pending self.new.deliveries)
             (heard_of self.old.heard) (heard_of self.new.heard)) }
-        ensures err { OnErr result (AsksNothing self.old.next_seq self.new.next_seq
+        ensures unchanged { OnErr result (AsksNothing self.old.next_seq self.new.next_seq
             (D.pending self.old.deliveries) (D.pending self.new.deliveries)
             (heard_of self.old.heard) (heard_of self.new.heard)) }
         ensures given_up { self.new.given_up ≡ self.old.given_up }

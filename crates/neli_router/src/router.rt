@@ -138,7 +138,7 @@ impl<D: Deliveries> NlRouter<D> {
         ensures next_seq { OnOk result (self.new.next_seq ≡ number_after self.old.next_seq) }
         ensures opened { OnOk result (Opens self.old.next_seq
             (D.pending self.old.deliveries) (D.pending self.new.deliveries)) }
-        ensures err { OnErr result ((self.new.next_seq ≡ self.old.next_seq)
+        ensures unchanged { OnErr result ((self.new.next_seq ≡ self.old.next_seq)
             × (SameLists (D.pending self.old.deliveries) (D.pending self.new.deliveries))) }
         // Nothing is known of the answer yet.
         ensures heard { OnOk result
@@ -184,7 +184,7 @@ impl<D: Deliveries> NlRouter<D> {
             (λ q. is_some (D.pending self.old.deliveries (Some q))) w
             (cut_of untyped_layout bytes.now) groups.now)
             (D.pending self.old.deliveries) (D.pending self.new.deliveries)) }
-        ensures err { OnErr result (SameLists
+        ensures unchanged { OnErr result (SameLists
             (D.pending self.old.deliveries) (D.pending self.new.deliveries)) }
         ensures empty { bytes.now ≡ [] → IsOk result }
         ensures heard { self.new.heard ≡ self.old.heard }
@@ -203,7 +203,7 @@ impl<D: Deliveries> NlRouter<D> {
         ensures next_seq { self.new.next_seq ≡ self.old.next_seq }
         ensures ok { OnOk result (ListsGain (λ w. fault_share w error)
             (D.pending self.old.deliveries) (D.pending self.new.deliveries)) }
-        ensures err { OnErr result (SameLists
+        ensures unchanged { OnErr result (SameLists
             (D.pending self.old.deliveries) (D.pending self.new.deliveries)) }
         ensures would_block { is_would_block error ≡ true → IsOk result }
         ensures unawaited { ((q : ℕ) → D.pending self.old.deliveries (Some q) ≡ None) → IsOk result }
@@ -250,7 +250,7 @@ impl<D: Deliveries> NlRouter<D> {
             })) }
         ensures others { SameListsBut handle.old.number
             (D.pending self.old.deliveries) (D.pending self.new.deliveries) }
-        ensures err { OnErr result ((handle.new ≡ handle.old) × (self.new ≡ self.old)) }
+        ensures unchanged { OnErr result ((handle.new ≡ handle.old) × (self.new ≡ self.old)) }
         ensures memory { handle.old.ended ≡ false → (d : Waiting) (ds : List Waiting)
             → D.pending self.old.deliveries handle.old.number ≡ Some (d ∷ ds)
             → OnErr result (ReadingTakesMemory P.takes_memory d) }

@@ -4,7 +4,7 @@ ghost use Rattle.std.specs.Prelude.{◌≡◌, Ok, Err, IfOk, IfErr};
 ghost use Rattle.std.specs.Option.{option_copied, option_map};
 ghost use Rattle.neli_wire.specs.Strings.{owned_text};
 ghost use Rattle.neli_attr.specs.Lookup.{is_masked};
-ghost use Rattle.neli_lent.specs.Attributes.{attribute_said};
+ghost use Rattle.neli_lent.specs.Attributes.{attribute_view};
 ghost use Rattle.neli_lent.specs.Walks.{map_found};
 ghost use Rattle.neli_short.specs.Errors.{RefusesRead};
 ghost use Rattle.neli_short.specs.Look.{read_takes_memory};
@@ -117,7 +117,7 @@ pub(crate) fn payload_in<'b, K: Copy>(
     found: Result<Option<LentAttr<'b, K>>, DeError>,
 ) -> Result<Option<&'b [u8]>, AttrError>
     ensures { map_there (λ payload. payload.now) result
-        ≡ in_found number (λ a. Ok (Some a.1)) (map_found attribute_said found.entry) }
+        ≡ in_found number (λ a. Ok (Some a.1)) (map_found attribute_view found.entry) }
 {
     match found {
         Ok(Some(attr)) => Ok(Some(attr.attr_payload())),

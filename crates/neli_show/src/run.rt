@@ -99,7 +99,7 @@ fn print_input<W: Write>(
 /// The status of a run that printed its input, which is messages alone or not; or of one whose output failed.
 fn status_of(printed: fmt::Result, is_whole: bool) -> Status
     ensures ok { IsOk printed → result ≡ printed_status is_whole }
-    ensures err { IsErr printed → result ≡ Status.NoOutput }
+    ensures unprinted { IsErr printed → result ≡ Status.NoOutput }
 {
     match printed {
         Ok(()) if is_whole => Status::Whole,
@@ -151,7 +151,7 @@ fn show_bytes<W: Write>(
         (W.contents out.new) status) }
     ensures ran { IfOk result (λ status. (status ≢ Status.Usage) × (status ≢ Status.Memory)
         × (status ≢ Status.NoInput)) }
-    ensures silent { OnErr result (out.new ≡ out.old) }
+    ensures unchanged { OnErr result (out.new ≡ out.old) }
 {
     let input = read_input(alloc, bytes)?;
     let tables = tables_for(alloc, word, request.protocol, &input)?;

@@ -6,7 +6,7 @@ use Rattle.std.specs.Option.{option_or}
 use Rattle.std.specs.Cmp.{first_so, second_so}
 use Rattle.std.proofs.lemmas.Bool.{eqb-true}
 use Rattle.neli_tables.specs.declared.line.Line.{Line}
-use Rattle.neli_tables.specs.Lines.{line_seen}
+use Rattle.neli_tables.specs.Lines.{line_view}
 use Rattle.neli_tables.specs.Index.{first_found}
 use Rattle.neli_tables.specs.RowKeys.{Key, has_key, key_of, place_from, section_after}
 use Rattle.neli_tables.proofs.PassedRows.{turn_at}
@@ -63,14 +63,14 @@ either None false place later = refl
 
 -- one line more is noted
 pub pass_line : (key : Key) (whole : Option ℕ) (lines : List Line) (i section : ℕ) (x : Line) (found after : Option ℕ)
-    → whole ≡ option_or found (place_from key section i (drop i (map line_seen lines))) → i < length lines
+    → whole ≡ option_or found (place_from key section i (drop i (map line_view lines))) → i < length lines
     → x ≡ get_or lines i x
-    → after ≡ first_found found key (key_of (section_after section i x.word) (line_seen x)) i
+    → after ≡ first_found found key (key_of (section_after section i x.word) (line_view x)) i
     → whole ≡ option_or after (place_from key (section_after section i x.word) (i + 1)
-    (drop (i + 1) (map line_seen lines)))
+    (drop (i + 1) (map line_view lines)))
 pass_line key whole lines i section x found after said within at is =
     let inner = section_after section i x.word in
-    let later = place_from key inner (i + 1) (drop (i + 1) (map line_seen lines)) in
-    turn_at line_seen (λ ls. option_or found (place_from key section i ls)) whole lines i x said within at
-    ∙ either found (has_key key (key_of inner (line_seen x))) i later
+    let later = place_from key inner (i + 1) (drop (i + 1) (map line_view lines)) in
+    turn_at line_view (λ ls. option_or found (place_from key section i ls)) whole lines i x said within at
+    ∙ either found (has_key key (key_of inner (line_view x))) i later
     ∙ ap (λ o. option_or o later) (sym is)

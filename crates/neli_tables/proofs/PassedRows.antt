@@ -12,8 +12,8 @@ use Rattle.std.specs.Borrow.{Bor}
 use Rattle.std.specs.Option.{option_map, option_or}
 use Rattle.neli_tables.specs.declared.line.Line.{Line}
 use Rattle.neli_tables.specs.declared.setting.Setting.{Setting}
-use Rattle.neli_tables.specs.Lines.{LineSeen, line_seen}
-use Rattle.neli_tables.specs.Settings.{setting_seen}
+use Rattle.neli_tables.specs.Lines.{LineSeen, line_view}
+use Rattle.neli_tables.specs.Settings.{setting_view}
 use Rattle.neli_tables.specs.Options.{first_word, word_in}
 use Rattle.neli_tables.specs.declared.tables.MessagePlace.{MessagePlace}
 use Rattle.neli_tables.specs.Families.{Lines, message_at, message_from, message_of}
@@ -58,20 +58,20 @@ before-map view None xs = refl
 
 -- the first word among options
 pub word_here : (whole : Option (List ℕ)) (settings : List Lent) (i : ℕ) (d : Lent) (o : Option (List ℕ))
-    → whole ≡ first_word (drop i (map setting_seen settings)) → i < length settings
-    → o ≡ word_in (setting_seen (get_or settings i d))
-    → whole ≡ option_or o (first_word (drop (i + 1) (map setting_seen settings)))
+    → whole ≡ first_word (drop i (map setting_view settings)) → i < length settings
+    → o ≡ word_in (setting_view (get_or settings i d))
+    → whole ≡ option_or o (first_word (drop (i + 1) (map setting_view settings)))
 word_here whole settings i d o said within is =
-    turn setting_seen first_word whole settings i d said within
-    ∙ ap (λ o. option_or o (first_word (drop (i + 1) (map setting_seen settings)))) (sym is)
+    turn setting_view first_word whole settings i d said within
+    ∙ ap (λ o. option_or o (first_word (drop (i + 1) (map setting_view settings)))) (sym is)
 
 -- rows up to the next section
 pub rows_here : (lines : List Line) (index : Option ℕ)
-    → index ≡ position (λ (line : Line). begins_section (line_seen line)) lines
-    → map line_seen (before index lines) ≡ rows_among (map line_seen lines)
+    → index ≡ position (λ (line : Line). begins_section (line_view line)) lines
+    → map line_view (before index lines) ≡ rows_among (map line_view lines)
 rows_here lines index is =
-    before-map line_seen index lines
-    ∙ ap (λ o. before o (map line_seen lines)) (is ∙ sym (position-map line_seen begins_section lines))
+    before-map line_view index lines
+    ∙ ap (λ o. before o (map line_view lines)) (is ∙ sym (position-map line_view begins_section lines))
 
 -- what stands behind a section
 pub below : (lines : List Line) (section : ℕ)
@@ -80,20 +80,20 @@ below lines section = take_all _ (drop (section + 1) lines) (omega (arith, lengt
 
 -- the rows of a section
 pub rows_below : (lines : List Line) (section : ℕ)
-    → rows_among (map line_seen (take (length lines - (section + 1)) (drop (section + 1) lines)))
-    ≡ rows_of section (map line_seen lines)
+    → rows_among (map line_view (take (length lines - (section + 1)) (drop (section + 1) lines)))
+    ≡ rows_of section (map line_view lines)
 rows_below lines section =
-    ap (λ (ls : List Line). rows_among (map line_seen ls)) (below lines section)
-    ∙ ap rows_among (sym (drop-map line_seen (section + 1) lines))
+    ap (λ (ls : List Line). rows_among (map line_view ls)) (below lines section)
+    ∙ ap rows_among (sym (drop-map line_view (section + 1) lines))
 
 -- the case that a text picks
 pub case_found : (rows : List Line) (lines : List LineSeen) (choice : ℕ) (text : List ℕ) (index : Option ℕ)
-    → index ≡ position (λ (row : Line). is_case text (line_seen row)) rows → map line_seen rows ≡ rows_of choice lines
+    → index ≡ position (λ (row : Line). is_case text (line_view row)) rows → map line_view rows ≡ rows_of choice lines
     → option_map (λ n. choice + 1 + n) index
     ≡ option_map (λ n. choice + 1 + n) (position (is_case text) (rows_of choice lines))
 case_found rows lines choice text index is rows_are =
     ap (option_map (λ n. choice + 1 + n))
-    (is ∙ sym (position-map line_seen (is_case text) rows) ∙ ap (position (is_case text)) rows_are)
+    (is ∙ sym (position-map line_view (is_case text) rows) ∙ ap (position (is_case text)) rows_are)
 
 -- a message in one table more
 pub message_here : (protocol : Option ℕ) (way : ℕ) (first : Option ℕ) (number : ℕ) (whole : Option MessagePlace)
@@ -213,14 +213,14 @@ rows_kept f kept lines size section are is =
     (ap (map f) (before_own (position begins_section all) all))
 
 -- the rows themselves
-pub rows_seen : (lines : List Line) (size section : ℕ) → size ≡ length (rows_of section (map line_seen lines))
-    → map line_seen (take (section + 1 + size - (section + 1)) (drop (section + 1) lines))
-    ≡ rows_of section (map line_seen lines)
+pub rows_seen : (lines : List Line) (size section : ℕ) → size ≡ length (rows_of section (map line_view lines))
+    → map line_view (take (section + 1 + size - (section + 1)) (drop (section + 1) lines))
+    ≡ rows_of section (map line_view lines)
 rows_seen lines size section is =
-    let all = drop (section + 1) (map line_seen lines) in
+    let all = drop (section + 1) (map line_view lines) in
     let many : section + 1 + size - (section + 1) ≡ length (rows_among all) = omega (arith, is) in
-    sym (take-map line_seen (section + 1 + size - (section + 1)) (drop (section + 1) lines))
-    ∙ ap (take (section + 1 + size - (section + 1))) (sym (drop-map line_seen (section + 1) lines))
+    sym (take-map line_view (section + 1 + size - (section + 1)) (drop (section + 1) lines))
+    ∙ ap (take (section + 1 + size - (section + 1))) (sym (drop-map line_view (section + 1) lines))
     ∙ ap (λ n. take n all) many ∙ before_own (position begins_section all) all
 
 -- and what is kept of them in another form

@@ -9,11 +9,11 @@ use Rattle.neli_tables.specs.declared.why.Unread.{Unread}
 use Rattle.neli_tables.specs.declared.why.Unread.TheVariants.{Memory, Refused}
 use Rattle.neli_tables.specs.declared.why.Why.{Why}
 use Rattle.neli_tables.specs.declared.word.Word.{Word}
-use Rattle.neli_tables.specs.Lines.{LineSeen, line_seen}
+use Rattle.neli_tables.specs.Lines.{LineSeen, line_view}
 use Rattle.neli_tables.specs.Refusals.{Reads}
 use Rattle.neli_tables.specs.Schemas.{IsWhyNot, before, error_at, line_at, lines_from, section_after}
 use Rattle.neli_tables.specs.Schemas.{with_line}
-use Rattle.neli_tables.specs.Text.{worded_seen}
+use Rattle.neli_tables.specs.Text.{worded_view}
 use Rattle.neli_tables.proofs.Places.{line_left}
 
 abbrev Find : Type 0
@@ -41,30 +41,30 @@ next find section number others read =
 
 -- the next line is this one
 turn : (find : Find) (whole : Outcome) (lines : List LineSeen) (section : Option Word) (worded : List Worded) (i : ℕ)
-    (x : Worded) → whole ≡ before lines (lines_from find section (drop i (map worded_seen worded))) → i < length worded
+    (x : Worded) → whole ≡ before lines (lines_from find section (drop i (map worded_view worded))) → i < length worded
     → x ≡ get_or worded i x
-    → whole ≡ before lines (next find section x.number (drop (i + 1) (map worded_seen worded))
-    (line_at find section x.number (worded_seen x).1))
+    → whole ≡ before lines (next find section x.number (drop (i + 1) (map worded_view worded))
+    (line_at find section x.number (worded_view x).1))
 turn find whole lines section worded i x said within at =
     said ∙ ap (λ others. before lines (lines_from find section others)) (line_left worded i x within)
-    ∙ ap (λ (y : Worded). before lines (next find section y.number (drop (i + 1) (map worded_seen worded))
-    (line_at find section y.number (worded_seen y).1))) (sym at)
+    ∙ ap (λ (y : Worded). before lines (next find section y.number (drop (i + 1) (map worded_view worded))
+    (line_at find section y.number (worded_view y).1))) (sym at)
 
 pass_bad : (find : Find) (whole : Outcome) (lines : List LineSeen) (section : Option Word) (worded : List Worded)
     (i : ℕ) (x : Worded) (w : Why)
-    → whole ≡ before lines (lines_from find section (drop i (map worded_seen worded))) → i < length worded
-    → x ≡ get_or worded i x → line_at find section x.number (worded_seen x).1 ≡ Err w
+    → whole ≡ before lines (lines_from find section (drop i (map worded_view worded))) → i < length worded
+    → x ≡ get_or worded i x → line_at find section x.number (worded_view x).1 ≡ Err w
     → whole ≡ Err (x.number, w)
 pass_bad find whole lines section worded i x w said within at is =
     turn find whole lines section worded i x said within at
-    ∙ ap (λ read. before lines (next find section x.number (drop (i + 1) (map worded_seen worded)) read)) is
+    ∙ ap (λ read. before lines (next find section x.number (drop (i + 1) (map worded_view worded)) read)) is
 
 -- the line of these words is refused
 pub pass_unread : (find : Find) (whole : Outcome) (lines : List LineSeen) (section : Option Word) (worded : List Worded)
     (i : ℕ) (x : Worded) (words : List (Bor (List ℕ))) (unread : Unread)
-    → whole ≡ before lines (lines_from find section (drop i (map worded_seen worded))) → i < length worded
+    → whole ≡ before lines (lines_from find section (drop i (map worded_view worded))) → i < length worded
     → x ≡ get_or worded i x → words ≡ x.words.items
-    → Reads line_seen (line_at find section x.number (map (λ (word : Bor (List ℕ)). word.now) words)) (Err unread)
+    → Reads line_view (line_at find section x.number (map (λ (word : Bor (List ℕ)). word.now) words)) (Err unread)
     → IsWhyNot whole (error_at x.number unread)
 pass_unread find whole lines section worded i x words (Refused w) said within at same is =
     pass_bad find whole lines section worded i x w said within at
@@ -74,14 +74,14 @@ pass_unread find whole lines section worded i x words Memory said within at same
 -- the line is read
 pub pass_read : (find : Find) (whole : Outcome) (lines : List LineSeen) (section : Option Word) (worded : List Worded)
     (i : ℕ) (x : Worded) (read : LineSeen)
-    → whole ≡ before lines (lines_from find section (drop i (map worded_seen worded))) → i < length worded
-    → x ≡ get_or worded i x → line_at find section x.number (worded_seen x).1 ≡ Ok read
+    → whole ≡ before lines (lines_from find section (drop i (map worded_view worded))) → i < length worded
+    → x ≡ get_or worded i x → line_at find section x.number (worded_view x).1 ≡ Ok read
     → whole ≡ before (lines ++ read ∷ [])
-    (lines_from find (section_after section read.word) (drop (i + 1) (map worded_seen worded)))
+    (lines_from find (section_after section read.word) (drop (i + 1) (map worded_view worded)))
 pass_read find whole lines section worded i x read said within at is =
     turn find whole lines section worded i x said within at
-    ∙ ap (λ r. before lines (next find section x.number (drop (i + 1) (map worded_seen worded)) r)) is
-    ∙ before_more lines read (lines_from find (section_after section read.word) (drop (i + 1) (map worded_seen worded)))
+    ∙ ap (λ r. before lines (next find section x.number (drop (i + 1) (map worded_view worded)) r)) is
+    ∙ before_more lines read (lines_from find (section_after section read.word) (drop (i + 1) (map worded_view worded)))
 
 -- the lines of a text, with the places found
 pub found_so : (find places : Find) (section : Option Word) (lines : List (ℕ × List (List ℕ)))

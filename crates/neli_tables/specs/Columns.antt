@@ -19,8 +19,8 @@ pub record ColumnSeen : Type 0 where
   pub text : List ℕ
   pub json : List ℕ
 
-abbrev pub column_seen : Column → ColumnSeen
-column_seen c = record {
+abbrev pub column_view : Column → ColumnSeen
+column_view c = record {
   start = c.start;
   stop = c.end;
   kind = c.kind;

@@ -21,7 +21,7 @@ use Rattle.neli_tables.specs.declared.word.Word.TheVariants as word
 use Rattle.neli_tables.specs.declared.line.Line.{Line}
 use Rattle.neli_tables.specs.Numbers.{span_of}
 use Rattle.neli_tables.specs.Refusals.{and_then}
-use Rattle.neli_tables.specs.Settings.{settings_in, settings_seen}
+use Rattle.neli_tables.specs.Settings.{settings_in, settings_view}
 use Rattle.neli_tables.specs.Words.{word_named}
 
 -- ---- the number after a name
@@ -220,13 +220,13 @@ pub record LineSeen : Type 0 where
   pub span : Option Span
   pub settings : List (Setting (List ℕ))
 
-abbrev pub line_seen : Line → LineSeen
-line_seen line = record {
+abbrev pub line_view : Line → LineSeen
+line_view line = record {
   number = line.number;
   word = line.word;
   name = line.name.now;
   span = line.span;
-  settings = settings_seen line.settings;
+  settings = settings_view line.settings;
 }
 
 -- a line with these options, if all of them may stand on it

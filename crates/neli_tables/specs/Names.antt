@@ -35,8 +35,8 @@ abbrev pub head_of : List (List ℕ) → Option (List ℕ × List ℕ)
 head_of (first ∷ name ∷ words) = Some (first, name)
 head_of words = None
 
-abbrev pub head_seen : Bor (List ℕ) × Bor (List ℕ) → List ℕ × List ℕ
-head_seen head = (head.0.now, head.1.now)
+abbrev pub head_view : Bor (List ℕ) × Bor (List ℕ) → List ℕ × List ℕ
+head_view head = (head.0.now, head.1.now)
 
 -- these are this first word and this name
 abbrev pub is_head : Word → List ℕ → Option (List ℕ × List ℕ) → Bool

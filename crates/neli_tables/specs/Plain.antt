@@ -16,5 +16,5 @@ plain_name line =
     if list_all is_plain line.name && is_utf8 line.name then Some line.name else None
 
 -- the bytes of a name that is kept
-abbrev pub name_seen : Option (Bor (List ℕ)) → Option (List ℕ)
-name_seen name = option_map (λ (text : Bor (List ℕ)). text.now) name
+abbrev pub name_view : Option (Bor (List ℕ)) → Option (List ℕ)
+name_view name = option_map (λ (text : Bor (List ℕ)). text.now) name

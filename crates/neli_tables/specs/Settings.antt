@@ -160,14 +160,14 @@ settings_in find words = settings_from find [] words
 
 -- ---- views
 
-abbrev pub value_seen : Value (Bor (List ℕ)) → Value (List ℕ)
-value_seen value.Nothing = value.Nothing
-value_seen (value.Word word) = value.Word word.now
-value_seen (value.Span span) = value.Span span
-value_seen (value.Line n) = value.Line n
+abbrev pub value_view : Value (Bor (List ℕ)) → Value (List ℕ)
+value_view value.Nothing = value.Nothing
+value_view (value.Word word) = value.Word word.now
+value_view (value.Span span) = value.Span span
+value_view (value.Line n) = value.Line n
 
-abbrev pub setting_seen : Setting (Bor (List ℕ)) → Setting (List ℕ)
-setting_seen setting = record { said = setting.said; value = value_seen setting.value }
+abbrev pub setting_view : Setting (Bor (List ℕ)) → Setting (List ℕ)
+setting_view setting = record { said = setting.said; value = value_view setting.value }
 
-abbrev pub settings_seen : Vec (Setting (Bor (List ℕ))) → List (Setting (List ℕ))
-settings_seen settings = map setting_seen settings.items
+abbrev pub settings_view : Vec (Setting (Bor (List ℕ))) → List (Setting (List ℕ))
+settings_view settings = map setting_view settings.items

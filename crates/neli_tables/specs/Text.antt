@@ -33,5 +33,5 @@ abbrev pub worded_in : List ℕ → List (ℕ × List (List ℕ))
 worded_in text = worded_from 1 (slice_split (λ b. b == 10) text)
 
 -- the view of such a line
-abbrev pub worded_seen : Worded → ℕ × List (List ℕ)
-worded_seen line = (line.number, map (λ word. word.now) line.words.items)
+abbrev pub worded_view : Worded → ℕ × List (List ℕ)
+worded_view line = (line.number, map (λ word. word.now) line.words.items)

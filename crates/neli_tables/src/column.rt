@@ -3,8 +3,8 @@
 ghost use Rattle.std.specs.Prelude.{◌≡◌, ◌++◌, map, IfOk};
 ghost use Rattle.std.specs.Option.{option_map};
 ghost use Rattle.std.specs.String.{string_bytes};
-ghost use Rattle.neli_tables.specs.Columns.{column_of, column_seen, plain_kind};
-ghost use Rattle.neli_tables.specs.Lines.{line_seen};
+ghost use Rattle.neli_tables.specs.Columns.{column_of, column_view, plain_kind};
+ghost use Rattle.neli_tables.specs.Lines.{line_view};
 
 use crate::plain::plain_name;
 use crate::{Kind, Line, Options, Word, options_of};
@@ -54,7 +54,7 @@ fn enclosed(alloc: Global, before: &str, name: &str, after: &str) -> Result<Stri
 
 /// The column of a line, where it is a field with such a kind, and its name needs no escape.
 fn column_of(alloc: Global, line: &Line<'_>) -> Result<Option<Column>, AllocError>
-    ensures { IfOk result (λ column. option_map column_seen column ≡ column_of (line_seen line.now)) }
+    ensures { IfOk result (λ column. option_map column_view column ≡ column_of (line_view line.now)) }
 {
     if !matches!(line.word, Word::Field) {
         return Ok(None);
@@ -82,8 +82,8 @@ pub(crate) fn all_columns(
     alloc: Global,
     lines: &[Line<'_>],
 ) -> Result<Vec<Option<Column>>, AllocError>
-    ensures { IfOk result (λ columns. map (option_map column_seen) columns.items
-        ≡ map column_of (map line_seen lines.now)) }
+    ensures { IfOk result (λ columns. map (option_map column_view) columns.items
+        ≡ map column_of (map line_view lines.now)) }
 {
     let mut columns = Vec::with_capacity(alloc, lines.len())?;
     for line in lines {

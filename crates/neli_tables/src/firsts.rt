@@ -1,7 +1,7 @@
 //! Lines that are the first with their keys.
 
 ghost use Rattle.std.specs.Prelude.{◌≡◌, IfOk, IfSome, Some, map};
-ghost use Rattle.neli_tables.specs.Lines.{line_seen};
+ghost use Rattle.neli_tables.specs.Lines.{line_view};
 ghost use Rattle.neli_tables.specs.Index.{AreFirsts, Indexes, finds, is_first};
 
 use crate::Line;
@@ -31,8 +31,8 @@ fn first_key(index: &Index, place: usize, key: Option<Key>) -> Option<Key>
 impl Firsts {
     /// The first lines among these, which an index has.
     pub fn of(alloc: Global, lines: &[Line<'_>], index: &Index) -> Result<Firsts, AllocError>
-        requires { Indexes index.now (map line_seen lines.now) }
-        ensures { IfOk result (λ firsts. AreFirsts firsts (map line_seen lines.now)) }
+        requires { Indexes index.now (map line_view lines.now) }
+        ensures { IfOk result (λ firsts. AreFirsts firsts (map line_view lines.now)) }
     {
         let mut keys = Vec::with_capacity(alloc, lines.len())?;
         let mut section = 0;

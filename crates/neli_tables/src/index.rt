@@ -1,7 +1,7 @@
 //! Where the lines of a table stand, by their keys.
 
 ghost use Rattle.std.specs.Prelude.{◌≡◌, map, IfOk, OnOk, OnErr};
-ghost use Rattle.neli_tables.specs.Lines.{line_seen};
+ghost use Rattle.neli_tables.specs.Lines.{line_view};
 ghost use Rattle.neli_tables.specs.Index.{Indexes, finds, first_found};
 ghost use Rattle.neli_tables.specs.RowKeys.{Key};
 
@@ -19,7 +19,7 @@ pub struct Index {
 impl Index {
     /// Where these lines stand.
     pub fn of(alloc: Global, lines: &[Line<'_>]) -> Result<Index, AllocError>
-        ensures { IfOk result (λ index. Indexes index (map line_seen lines.now)) }
+        ensures { IfOk result (λ index. Indexes index (map line_view lines.now)) }
     {
         let mut index = Index {
             map: HashMap::new(alloc),

@@ -1,7 +1,7 @@
 //! The options of a line, except its kind.
 
 ghost use Rattle.std.specs.Prelude.{◌≡◌, map};
-ghost use Rattle.neli_tables.specs.Rows.{row_seen};
+ghost use Rattle.neli_tables.specs.Rows.{row_view};
 ghost use Rattle.neli_tables.specs.Keys.{key_named, keys};
 
 use crate::rows::row_named;
@@ -72,7 +72,7 @@ static KEYS: [(&[u8], Key); 18] = [
 /// The whole table.
 #[tactic(auto, unfolding(crate::specs::Keys::keys))]
 fn key_rows() -> &'static [(&'static [u8], Key)]
-    ensures { map row_seen result.now ≡ keys }
+    ensures { map row_view result.now ≡ keys }
 {
     &KEYS
 }

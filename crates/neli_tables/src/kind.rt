@@ -1,7 +1,7 @@
 //! The kinds of a payload, a field, a body or a case.
 
 ghost use Rattle.std.specs.Prelude.{◌≡◌, map};
-ghost use Rattle.neli_tables.specs.Rows.{row_seen};
+ghost use Rattle.neli_tables.specs.Rows.{row_view};
 ghost use Rattle.neli_tables.specs.Kinds.{kind_named, kinds};
 
 use crate::rows::row_named;
@@ -111,7 +111,7 @@ static KINDS: [(&[u8], Kind); 31] = [
 /// The whole table.
 #[tactic(auto, unfolding(crate::specs::Kinds::kinds))]
 fn kind_rows() -> &'static [(&'static [u8], Kind)]
-    ensures { map row_seen result.now ≡ kinds }
+    ensures { map row_view result.now ≡ kinds }
 {
     &KINDS
 }

@@ -3,11 +3,11 @@
 ghost use Rattle.std.specs.Prelude.{◌≡◌, map};
 ghost use Rattle.neli_tables.specs.Lines.{after_number, all_belong, belongs, class_of, is_countable};
 ghost use Rattle.neli_tables.specs.Lines.{key_belongs};
-ghost use Rattle.neli_tables.specs.Lines.{kind_in, kind_said, line_in, line_seen, line_with, no_number};
+ghost use Rattle.neli_tables.specs.Lines.{kind_in, kind_said, line_in, line_view, line_with, no_number};
 ghost use Rattle.neli_tables.specs.Lines.{number_allowed, number_at, number_in, numbers_of};
 ghost use Rattle.neli_tables.specs.Names.{finds};
 ghost use Rattle.neli_tables.specs.Refusals.{Reads};
-ghost use Rattle.neli_tables.specs.Settings.{setting_seen};
+ghost use Rattle.neli_tables.specs.Settings.{setting_view};
 
 use crate::key::Key;
 use crate::kind::Kind;
@@ -132,7 +132,7 @@ fn kind_said(said: Said) -> Option<Kind>
 
 /// The kind among these options.
 fn kind_in(settings: &[Setting<&[u8]>]) -> Option<Kind>
-    ensures { result ≡ kind_in (map setting_seen settings.now) }
+    ensures { result ≡ kind_in (map setting_view settings.now) }
 {
     for setting in settings {
         if let Some(kind) = kind_said(setting.said) {
@@ -218,7 +218,7 @@ fn key_belongs(word: Word, class: Class, key: Key) -> bool
 
 /// Whether all these options may stand on such a line.
 fn all_belong(word: Word, class: Class, settings: &[Setting<&[u8]>]) -> bool
-    ensures { result ≡ all_belong word class (map setting_seen settings.now) }
+    ensures { result ≡ all_belong word class (map setting_view settings.now) }
 {
     for setting in settings {
         if !belongs(word, class, setting.said) {
@@ -248,7 +248,7 @@ fn read_named<'t>(
     name: &'t [u8],
     words: &[&'t [u8]],
 ) -> Result<Line<'t>, Unread>
-    ensures { Reads line_seen (line_with (finds names.now) number word name.now
+    ensures { Reads line_view (line_with (finds names.now) number word name.now
         (map (λ word. word.now) words.now)) result }
 {
     let span = match number_in(numbers_of(word), words) {
@@ -275,7 +275,7 @@ pub(crate) fn read_line<'t>(
     number: usize,
     words: &[&'t [u8]],
 ) -> Result<Line<'t>, Unread>
-    ensures { Reads line_seen (line_in (finds names.now) number
+    ensures { Reads line_view (line_in (finds names.now) number
         (map (λ word. word.now) words.now)) result }
 {
     let [first, rest @ ..] = words else {

@@ -3,8 +3,8 @@
 ghost use Rattle.std.specs.Prelude.{◌≡◌, ℕ, List, map, IfOk, OnOk};
 ghost use Rattle.std.specs.Option.{option_map};
 ghost use Rattle.neli_tables.specs.declared.word.Word.{Word};
-ghost use Rattle.neli_tables.specs.Names.{finds, head_of, head_seen, place_before, place_in, word_text};
-ghost use Rattle.neli_tables.specs.Text.{worded_seen};
+ghost use Rattle.neli_tables.specs.Names.{finds, head_of, head_view, place_before, place_in, word_text};
+ghost use Rattle.neli_tables.specs.Text.{worded_view};
 
 use crate::text::Worded;
 use crate::word::Word;
@@ -42,7 +42,7 @@ fn text_of(word: Word) -> &'static [u8]
 
 /// The first word and the name of a line of these words.
 fn head_of<'t>(words: &[&'t [u8]]) -> Option<(&'t [u8], &'t [u8])>
-    ensures { option_map head_seen result ≡ head_of (map (λ word. word.now) words.now) }
+    ensures { option_map head_view result ≡ head_of (map (λ word. word.now) words.now) }
 {
     match words {
         [first, name, ..] => Some((*first, *name)),
@@ -54,7 +54,7 @@ impl<'t> Names<'t> {
     /// The places of these lines.
     pub(crate) fn of(alloc: Global, lines: &[Worded<'t>]) -> Result<Names<'t>, AllocError>
         ensures { IfOk result (λ names. (w : Word) (name : List ℕ)
-            → finds names w name ≡ place_in w name 0 (map worded_seen lines.now)) }
+            → finds names w name ≡ place_in w name 0 (map worded_view lines.now)) }
     {
         let mut names = Names {
             map: HashMap::new(alloc),

@@ -2,8 +2,8 @@
 
 ghost use Rattle.std.specs.Prelude.{◌≡◌, map, IfOk};
 ghost use Rattle.std.specs.Option.{option_map};
-ghost use Rattle.neli_tables.specs.Lines.{line_seen};
-ghost use Rattle.neli_tables.specs.Settings.{setting_seen, value_seen};
+ghost use Rattle.neli_tables.specs.Lines.{line_view};
+ghost use Rattle.neli_tables.specs.Settings.{setting_view, value_view};
 ghost use Rattle.neli_tables.specs.Options.{key_option, kind_option, line_in, number_in, options_in};
 ghost use Rattle.neli_tables.specs.Options.{options_of};
 ghost use Rattle.neli_tables.specs.Options.{first_word, prefix_of, span_in, with_setting, word_in};
@@ -80,7 +80,7 @@ const NONE: Options = Options {
 
 /// The line that a value means.
 fn line_in(value: &Value<&[u8]>) -> Option<usize>
-    ensures { result ≡ line_in (value_seen value.now) }
+    ensures { result ≡ line_in (value_view value.now) }
 {
     match value {
         Value::Line(place) => Some(*place),
@@ -90,7 +90,7 @@ fn line_in(value: &Value<&[u8]>) -> Option<usize>
 
 /// The numbers that a value is.
 fn span_in(value: &Value<&[u8]>) -> Option<Span>
-    ensures { result ≡ span_in (value_seen value.now) }
+    ensures { result ≡ span_in (value_view value.now) }
 {
     match value {
         Value::Span(span) => Some(*span),
@@ -100,7 +100,7 @@ fn span_in(value: &Value<&[u8]>) -> Option<Span>
 
 /// The number that a value is.
 fn number_in(value: &Value<&[u8]>) -> Option<u64>
-    ensures { result ≡ number_in (value_seen value.now) }
+    ensures { result ≡ number_in (value_view value.now) }
 {
     match value {
         Value::Span(span) => Some(span.first),
@@ -111,7 +111,7 @@ fn number_in(value: &Value<&[u8]>) -> Option<u64>
 impl Options {
     /// Notes a kind.
     fn note_kind(&mut self, kind: Kind, value: &Value<&[u8]>)
-        ensures { self.new ≡ kind_option self.old kind (value_seen value.now) }
+        ensures { self.new ≡ kind_option self.old kind (value_view value.now) }
     {
         self.kind = Some(kind);
         self.of = line_in(value);
@@ -119,7 +119,7 @@ impl Options {
 
     /// Notes one more that refers to a line, or says whether something holds.
     fn note_key(&mut self, key: Key, value: &Value<&[u8]>)
-        ensures { self.new ≡ key_option self.old key (value_seen value.now) }
+        ensures { self.new ≡ key_option self.old key (value_view value.now) }
     {
         match key {
             Key::After => self.after = line_in(value),
@@ -145,7 +145,7 @@ impl Options {
 
     /// Notes one more.
     fn note(&mut self, setting: &Setting<&[u8]>)
-        ensures { self.new ≡ with_setting self.old (setting_seen setting.now) }
+        ensures { self.new ≡ with_setting self.old (setting_view setting.now) }
     {
         match setting.said {
             Said::Kind(kind) => self.note_kind(kind, &setting.value),
@@ -156,7 +156,7 @@ impl Options {
 
 /// What these options say.
 fn options_in(settings: &[Setting<&[u8]>]) -> Options
-    ensures { result ≡ options_in (map setting_seen settings.now) }
+    ensures { result ≡ options_in (map setting_view settings.now) }
 {
     let mut options = NONE;
     for setting in settings {
@@ -167,14 +167,14 @@ fn options_in(settings: &[Setting<&[u8]>]) -> Options
 
 /// What the options of a line say. The one that is a word is [`prefix_of`].
 pub fn options_of(line: &Line<'_>) -> Options
-    ensures { result ≡ options_of (line_seen line.now) }
+    ensures { result ≡ options_of (line_view line.now) }
 {
     options_in(&line.settings)
 }
 
 /// What the options of these lines say, in order. Refused where memory runs out.
 pub fn all_options(alloc: Global, lines: &[Line<'_>]) -> Result<Vec<Options>, AllocError>
-    ensures { IfOk result (λ all. all.items ≡ map options_of (map line_seen lines.now)) }
+    ensures { IfOk result (λ all. all.items ≡ map options_of (map line_view lines.now)) }
 {
     let mut all = Vec::with_capacity(alloc, lines.len())?;
     for line in lines {
@@ -185,7 +185,7 @@ pub fn all_options(alloc: Global, lines: &[Line<'_>]) -> Result<Vec<Options>, Al
 
 /// The word that an option has.
 fn word_in<'t>(setting: &Setting<&'t [u8]>) -> Option<&'t [u8]>
-    ensures { option_map (λ word. word.now) result ≡ word_in (setting_seen setting.now) }
+    ensures { option_map (λ word. word.now) result ≡ word_in (setting_view setting.now) }
 {
     match setting.value {
         Value::Word(word) => Some(word),
@@ -195,7 +195,7 @@ fn word_in<'t>(setting: &Setting<&'t [u8]>) -> Option<&'t [u8]>
 
 /// The first word among these options.
 fn first_word<'t>(settings: &[Setting<&'t [u8]>]) -> Option<&'t [u8]>
-    ensures { option_map (λ word. word.now) result ≡ first_word (map setting_seen settings.now) }
+    ensures { option_map (λ word. word.now) result ≡ first_word (map setting_view settings.now) }
 {
     for setting in settings {
         if let Some(word) = word_in(setting) {
@@ -207,7 +207,7 @@ fn first_word<'t>(settings: &[Setting<&'t [u8]>]) -> Option<&'t [u8]>
 
 /// What the names of an enum or a flag set begin with in the kernel's header, by the option `prefix=`.
 pub fn prefix_of<'t>(line: &Line<'t>) -> Option<&'t [u8]>
-    ensures { option_map (λ word. word.now) result ≡ prefix_of (line_seen line.now) }
+    ensures { option_map (λ word. word.now) result ≡ prefix_of (line_view line.now) }
 {
     first_word(&line.settings)
 }

@@ -3,8 +3,8 @@
 ghost use Rattle.std.specs.Prelude.{◌≡◌, map, IfOk};
 ghost use Rattle.std.specs.List.{list_all};
 ghost use Rattle.std.specs.Option.{option_map};
-ghost use Rattle.neli_tables.specs.Lines.{line_seen};
-ghost use Rattle.neli_tables.specs.Plain.{is_plain, name_seen, plain_name};
+ghost use Rattle.neli_tables.specs.Lines.{line_view};
+ghost use Rattle.neli_tables.specs.Plain.{is_plain, name_view, plain_name};
 
 use crate::Line;
 use std::alloc::{AllocError, Global};
@@ -26,7 +26,7 @@ pub fn are_plain(bytes: &[u8]) -> bool
 
 /// The name of a line as text, where it needs no escape.
 pub(crate) fn plain_name<'t>(line: &Line<'t>) -> Option<&'t str>
-    ensures { name_seen result ≡ plain_name (line_seen line.now) }
+    ensures { name_view result ≡ plain_name (line_view line.now) }
 {
     if !are_plain(line.name) {
         return None;
@@ -42,8 +42,8 @@ pub(crate) fn plain_names<'t>(
     alloc: Global,
     lines: &[Line<'t>],
 ) -> Result<Vec<Option<&'t str>>, AllocError>
-    ensures { IfOk result (λ names. map name_seen names.items
-        ≡ map plain_name (map line_seen lines.now)) }
+    ensures { IfOk result (λ names. map name_view names.items
+        ≡ map plain_name (map line_view lines.now)) }
 {
     let mut names = Vec::with_capacity(alloc, lines.len())?;
     for line in lines {

@@ -1,11 +1,11 @@
 //! Reads a text.
 
 ghost use Rattle.std.specs.Prelude.{◌≡◌, Ok, None, Some, map, IfErr, IfOk};
-ghost use Rattle.neli_tables.specs.Lines.{line_seen};
+ghost use Rattle.neli_tables.specs.Lines.{line_view};
 ghost use Rattle.neli_tables.specs.Names.{finds};
 ghost use Rattle.neli_tables.specs.Refusals.{Reads};
 ghost use Rattle.neli_tables.specs.Schemas.{IsWhyNot, error_at, error_text, line_at, lines_from, table_in};
-ghost use Rattle.neli_tables.specs.Text.{worded_seen};
+ghost use Rattle.neli_tables.specs.Text.{worded_view};
 ghost use Rattle.neli_tables.specs.declared.schema.ReadError.TheVariants.{Memory};
 
 use crate::line::{Line, read_line};
@@ -61,7 +61,7 @@ fn read_placed<'t>(
     number: usize,
     words: &[&'t [u8]],
 ) -> Result<Line<'t>, Unread>
-    ensures { Reads line_seen (line_at (finds names.now) section number
+    ensures { Reads line_view (line_at (finds names.now) section number
         (map (λ word. word.now) words.now)) result }
 {
     match read_line(alloc, names, number, words) {
@@ -90,10 +90,10 @@ fn read_lines<'t>(
     worded: &[Worded<'t>],
 ) -> Result<Vec<Line<'t>>, ReadError>
     ensures lines { IfOk result (λ lines.
-        lines_from (finds names.now) None (map worded_seen worded.now)
-        ≡ Ok (map line_seen lines.items)) }
+        lines_from (finds names.now) None (map worded_view worded.now)
+        ≡ Ok (map line_view lines.items)) }
     ensures refused { IfErr result
-        (IsWhyNot (lines_from (finds names.now) None (map worded_seen worded.now))) }
+        (IsWhyNot (lines_from (finds names.now) None (map worded_view worded.now))) }
 {
     let mut lines = Vec::new(alloc);
     let mut section = None;
@@ -113,7 +113,7 @@ fn read_lines<'t>(
 ///
 /// Refused with the number of the first bad line, or if memory runs out.
 pub fn read_table<'t>(alloc: Global, text: &'t [u8]) -> Result<Vec<Line<'t>>, ReadError>
-    ensures lines { IfOk result (λ lines. table_in text.now ≡ Ok (map line_seen lines.items)) }
+    ensures lines { IfOk result (λ lines. table_in text.now ≡ Ok (map line_view lines.items)) }
     ensures refused { IfErr result (IsWhyNot (table_in text.now)) }
 {
     let worded = worded_lines(alloc, text)?;

@@ -5,10 +5,10 @@ ghost use Rattle.std.specs.List.{position};
 ghost use Rattle.std.specs.Option.{option_map};
 ghost use Rattle.neli_tables.specs.Names.{finds};
 ghost use Rattle.neli_tables.specs.Refusals.{Reads, seen_as};
-ghost use Rattle.neli_tables.specs.Settings.{has_slot, said_named, setting_in, setting_seen, settings_in};
-ghost use Rattle.neli_tables.specs.Settings.{settings_seen};
+ghost use Rattle.neli_tables.specs.Settings.{has_slot, said_named, setting_in, setting_view, settings_in};
+ghost use Rattle.neli_tables.specs.Settings.{settings_view};
 ghost use Rattle.neli_tables.specs.Settings.{setting_with, slot, taken, takes, value_in, value_or_none};
-ghost use Rattle.neli_tables.specs.Settings.{value_seen};
+ghost use Rattle.neli_tables.specs.Settings.{value_view};
 
 use crate::key::{Key, key_named};
 use crate::kind::{Kind, kind_named};
@@ -132,7 +132,7 @@ fn said_named(name: &[u8]) -> Option<Said>
 
 /// The value of this word, if the option takes this.
 fn taken<'t>(names: &Names<'t>, takes: Takes, word: &'t [u8]) -> Result<Value<&'t [u8]>, Why>
-    ensures { seen_as value_seen result ≡ taken (finds names.now) takes word.now }
+    ensures { seen_as value_view result ≡ taken (finds names.now) takes word.now }
 {
     match takes {
         Takes::Nothing => Err(Why::Value),
@@ -150,7 +150,7 @@ fn taken<'t>(names: &Names<'t>, takes: Takes, word: &'t [u8]) -> Result<Value<&'
 
 /// The value after a `=`, if the option takes this.
 fn value_in<'t>(names: &Names<'t>, takes: Takes, word: &'t [u8]) -> Result<Value<&'t [u8]>, Why>
-    ensures { seen_as value_seen result ≡ value_in (finds names.now) takes word.now }
+    ensures { seen_as value_view result ≡ value_in (finds names.now) takes word.now }
 {
     if word.is_empty() {
         Err(Why::Value)
@@ -165,7 +165,7 @@ fn value_or_none<'t>(
     takes: Takes,
     word: Option<&'t [u8]>,
 ) -> Result<Value<&'t [u8]>, Why>
-    ensures { seen_as value_seen result
+    ensures { seen_as value_view result
         ≡ value_or_none (finds names.now) takes (option_map (λ word. word.now) word.entry) }
 {
     match word {
@@ -183,7 +183,7 @@ fn setting_with<'t>(
     name: &[u8],
     value: Option<&'t [u8]>,
 ) -> Result<Setting<&'t [u8]>, Why>
-    ensures { seen_as setting_seen result
+    ensures { seen_as setting_view result
         ≡ setting_with (finds names.now) name.now (option_map (λ v. v.now) value.entry) }
 {
     let Some(said) = said_named(name) else {
@@ -205,7 +205,7 @@ fn equals_in(word: &[u8]) -> Option<usize>
 
 /// The option in a word.
 fn setting_of<'t>(names: &Names<'t>, word: &'t [u8]) -> Result<Setting<&'t [u8]>, Why>
-    ensures { seen_as setting_seen result ≡ setting_in (finds names.now) word.now }
+    ensures { seen_as setting_view result ≡ setting_in (finds names.now) word.now }
 {
     match equals_in(word) {
         Some(at) => setting_with(names, &word[..at], Some(&word[at + 1..])),
@@ -222,7 +222,7 @@ fn same_slot(one: Said, other: Said) -> bool
 
 /// Whether one of these options has the number of this one.
 fn has_slot(settings: &[Setting<&[u8]>], said: Said) -> bool
-    ensures { result ≡ has_slot (map setting_seen settings.now) said }
+    ensures { result ≡ has_slot (map setting_view settings.now) said }
 {
     for setting in settings {
         if same_slot(setting.said, said) {
@@ -238,7 +238,7 @@ pub(crate) fn settings_of<'t>(
     names: &Names<'t>,
     words: &[&'t [u8]],
 ) -> Result<Vec<Setting<&'t [u8]>>, Unread>
-    ensures { Reads settings_seen
+    ensures { Reads settings_view
         (settings_in (finds names.now) (map (λ word. word.now) words.now)) result }
 {
     let mut settings = Vec::with_capacity(alloc, words.len())?;

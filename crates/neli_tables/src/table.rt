@@ -3,13 +3,13 @@
 ghost use Rattle.std.specs.Prelude.{◌≡◌, ◌+◌, ◌<◌, ◌≤◌, List, Ok, IfErr, IfOk, IfSome, length, map, position};
 ghost use Rattle.std.specs.Prelude.{get_or, option_and_then, slice_get};
 ghost use Rattle.std.specs.Option.{option_map};
-ghost use Rattle.neli_tables.specs.Lines.{LineSeen, line_seen};
+ghost use Rattle.neli_tables.specs.Lines.{LineSeen, line_view};
 ghost use Rattle.neli_tables.specs.Schemas.{IsWhyNot, table_in};
 ghost use Rattle.neli_tables.specs.Index.{AreFirsts, Indexes};
 ghost use Rattle.neli_tables.specs.RowKeys.{place_of, rest_key, way_number};
 ghost use Rattle.neli_tables.specs.Options.{options_of};
-ghost use Rattle.neli_tables.specs.Plain.{name_seen, plain_name};
-ghost use Rattle.neli_tables.specs.Columns.{column_of, column_seen};
+ghost use Rattle.neli_tables.specs.Plain.{name_view, plain_name};
+ghost use Rattle.neli_tables.specs.Columns.{column_of, column_view};
 ghost use Rattle.neli_tables.specs.FoundRows.{begins_section, case_in, group_in, is_case, message_for};
 ghost use Rattle.neli_tables.specs.FoundRows.{message_in};
 ghost use Rattle.neli_tables.specs.FoundRows.{row_in, rows_among, rows_of, size_before, sizes_of};
@@ -43,15 +43,15 @@ pub struct Table<'t> {
 impl<'t> Model for Table<'t> {
     ghost Value = { List LineSeen };
 
-    ghost view = { λ t. map line_seen t.lines.items };
+    ghost view = { λ t. map line_view t.lines.items };
 
-    ghost invariant = { λ t. Indexes t.index (map line_seen t.lines.items)
-        × AreFirsts t.firsts (map line_seen t.lines.items)
-        × (t.options.items ≡ map options_of (map line_seen t.lines.items))
-        × (map name_seen t.names.items ≡ map plain_name (map line_seen t.lines.items))
-        × (map (option_map column_seen) t.columns.items
-        ≡ map column_of (map line_seen t.lines.items))
-        × (t.sizes.items ≡ sizes_of (map line_seen t.lines.items)) };
+    ghost invariant = { λ t. Indexes t.index (map line_view t.lines.items)
+        × AreFirsts t.firsts (map line_view t.lines.items)
+        × (t.options.items ≡ map options_of (map line_view t.lines.items))
+        × (map name_view t.names.items ≡ map plain_name (map line_view t.lines.items))
+        × (map (option_map column_view) t.columns.items
+        ≡ map column_of (map line_view t.lines.items))
+        × (t.sizes.items ≡ sizes_of (map line_view t.lines.items)) };
 }
 
 impl<'t> Table<'t> {
@@ -70,7 +70,7 @@ impl<'t> Table<'t> {
 
     /// The table of these lines, which are those of a text. Refused where memory runs out.
     pub fn of(alloc: Global, lines: Vec<Line<'t>>) -> Result<Table<'t>, AllocError>
-        ensures { IfOk result (λ table. table ≡ map line_seen lines.entry.items) }
+        ensures { IfOk result (λ table. table ≡ map line_view lines.entry.items) }
     {
         let index = Index::of(alloc, &lines)?;
         let firsts = Firsts::of(alloc, &lines, &index)?;
@@ -93,14 +93,14 @@ impl<'t> Table<'t> {
 
     /// All lines; the first is the family.
     pub fn lines(&self) -> &[Line<'t>]
-        ensures { map line_seen result.now ≡ self.now }
+        ensures { map line_view result.now ≡ self.now }
     {
         &self.lines
     }
 
     /// The line at this place.
     pub fn line(&self, place: usize) -> Option<&Line<'t>>
-        ensures { option_map (λ line. line_seen line.now) result ≡ slice_get self.now place }
+        ensures { option_map (λ line. line_view line.now) result ≡ slice_get self.now place }
     {
         self.lines.get(place)
     }
@@ -116,7 +116,7 @@ impl<'t> Table<'t> {
     /// The rows of the section at this place, in order: the fields of a structure, the values of an enum, the
     /// attributes of a set, the cases of a choice.
     pub fn rows(&self, section: usize) -> &[Line<'t>]
-        ensures { map line_seen result.now ≡ rows_of section self.now }
+        ensures { map line_view result.now ≡ rows_of section self.now }
     {
         let size = self.size(section);
         if size == 0 {
@@ -151,7 +151,7 @@ impl<'t> Table<'t> {
     /// The name of the line at this place, where it is printed as it stands: each of its bytes is a printing character
     /// of ASCII that needs no escape in quotes.
     pub fn plain_name(&self, place: usize) -> Option<&'t str>
-        ensures { name_seen result ≡ option_and_then plain_name (slice_get self.now place) }
+        ensures { name_view result ≡ option_and_then plain_name (slice_get self.now place) }
     {
         match self.names.get(place) {
             Some(name) => *name,
@@ -161,7 +161,7 @@ impl<'t> Table<'t> {
 
     /// The same of the rows of the section at this place, in order.
     pub fn row_names(&self, section: usize) -> &[Option<&'t str>]
-        ensures { map name_seen result.now ≡ map plain_name (rows_of section self.now) }
+        ensures { map name_view result.now ≡ map plain_name (rows_of section self.now) }
     {
         let size = self.size(section);
         if size == 0 {
@@ -172,7 +172,7 @@ impl<'t> Table<'t> {
 
     /// The columns of the rows of the section at this place, in order.
     pub fn row_columns(&self, section: usize) -> &[Option<Column>]
-        ensures { map (option_map column_seen) result.now ≡ map column_of (rows_of section self.now) }
+        ensures { map (option_map column_view) result.now ≡ map column_of (rows_of section self.now) }
     {
         let size = self.size(section);
         if size == 0 {
@@ -252,14 +252,14 @@ impl<'t> Table<'t> {
 
 /// Whether a line begins a section.
 fn begins_section(line: &Line<'_>) -> bool
-    ensures { result ≡ begins_section (line_seen line.now) }
+    ensures { result ≡ begins_section (line_view line.now) }
 {
     !is_row(line.word)
 }
 
 /// The index of the first of these lines that begins a section.
 fn next_section(lines: &[Line<'_>]) -> Option<usize>
-    ensures value { result ≡ position (λ line. begins_section (line_seen line)) lines.now }
+    ensures value { result ≡ position (λ line. begins_section (line_view line)) lines.now }
     ensures within { IfSome result (λ index. index < length lines.now) }
 {
     lines.iter().position(|line| begins_section(line))
@@ -267,7 +267,7 @@ fn next_section(lines: &[Line<'_>]) -> Option<usize>
 
 /// These lines, up to the first that begins a section.
 fn rows_among<'s, 't>(lines: &'s [Line<'t>]) -> &'s [Line<'t>]
-    ensures rows { map line_seen result.now ≡ rows_among (map line_seen lines.now) }
+    ensures rows { map line_view result.now ≡ rows_among (map line_view lines.now) }
     ensures within { length result.now ≤ length lines.now }
 {
     match next_section(lines) {
@@ -278,7 +278,7 @@ fn rows_among<'s, 't>(lines: &'s [Line<'t>]) -> &'s [Line<'t>]
 
 /// The rows of the section at this place.
 fn rows_of<'s, 't>(lines: &'s [Line<'t>], section: usize) -> &'s [Line<'t>]
-    ensures rows { map line_seen result.now ≡ rows_of section (map line_seen lines.now) }
+    ensures rows { map line_view result.now ≡ rows_of section (map line_view lines.now) }
     ensures within { 0 < length result.now → section + 1 + length result.now ≤ length lines.now }
 {
     if section < lines.len() {
@@ -292,8 +292,8 @@ fn rows_of<'s, 't>(lines: &'s [Line<'t>], section: usize) -> &'s [Line<'t>]
 /// the rows of a section are looked at once.
 fn size_at(lines: &[Line<'_>], place: usize, before: usize) -> usize
     requires within { place < length lines.now }
-    requires before { before ≡ size_before (map line_seen lines.now) place }
-    ensures { result ≡ get_or (sizes_of (map line_seen lines.now)) place 0 }
+    requires before { before ≡ size_before (map line_view lines.now) place }
+    ensures { result ≡ get_or (sizes_of (map line_view lines.now)) place 0 }
 {
     if before > 0 {
         before - 1
@@ -304,7 +304,7 @@ fn size_at(lines: &[Line<'_>], place: usize, before: usize) -> usize
 
 /// How many rows follow each of these lines, in order. Refused where memory runs out.
 fn all_sizes(alloc: Global, lines: &[Line<'_>]) -> Result<Vec<usize>, AllocError>
-    ensures { IfOk result (λ sizes. sizes.items ≡ sizes_of (map line_seen lines.now)) }
+    ensures { IfOk result (λ sizes. sizes.items ≡ sizes_of (map line_view lines.now)) }
 {
     let mut sizes = Vec::with_capacity(alloc, lines.len())?;
     let mut size = 0;
@@ -317,14 +317,14 @@ fn all_sizes(alloc: Global, lines: &[Line<'_>]) -> Result<Vec<usize>, AllocError
 
 /// Whether this case is picked by this text.
 fn is_case(row: &Line<'_>, text: &[u8]) -> bool
-    ensures { result ≡ is_case text.now (line_seen row.now) }
+    ensures { result ≡ is_case text.now (line_view row.now) }
 {
     matches!(row.word, Word::Case) && row.span.is_none() && row.name == text
 }
 
 /// The index of the first of these that this text picks.
 fn position_of_case(rows: &[Line<'_>], text: &[u8]) -> Option<usize>
-    ensures value { result ≡ position (λ row. is_case text.now (line_seen row)) rows.now }
+    ensures value { result ≡ position (λ row. is_case text.now (line_view row)) rows.now }
     ensures within { IfSome result (λ index. index < length rows.now) }
 {
     rows.iter().position(|row| is_case(row, text))
@@ -333,7 +333,7 @@ fn position_of_case(rows: &[Line<'_>], text: &[u8]) -> Option<usize>
 /// The place of the case that this text picks of the choice at this place.
 fn case_at(lines: &[Line<'_>], choice: usize, text: &[u8]) -> Option<usize>
     ensures { result ≡ option_map (λ index. choice + 1 + index)
-        (position (is_case text.now) (rows_of choice (map line_seen lines.now))) }
+        (position (is_case text.now) (rows_of choice (map line_view lines.now))) }
 {
     let rows = rows_of(lines, choice);
     match position_of_case(rows, text) {

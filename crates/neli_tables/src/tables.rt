@@ -48,7 +48,7 @@ impl<'t> Tables<'t> {
     /// Adds a table behind the others. Where memory runs out, nothing is added.
     pub fn add(&mut self, table: Table<'t>) -> Result<(), AllocError>
         ensures ok { OnOk result (tables_in self.new ≡ tables_in self.old ++ table.entry ∷ []) }
-        ensures err { OnErr result (tables_in self.new ≡ tables_in self.old) }
+        ensures unchanged { OnErr result (tables_in self.new ≡ tables_in self.old) }
         ensures learnt { (id : ℕ) → learnt self.new id ≡ learnt self.old id }
     {
         self.tables.push(table)?;
@@ -116,7 +116,7 @@ impl<'t> Tables<'t> {
         ensures tables { tables_in self.new ≡ tables_in self.old }
         ensures ok { OnOk result ((n : ℕ) → learnt self.new n
             ≡ learnt_as id (generic_in name.now (tables_in self.old)) n (learnt self.old n)) }
-        ensures err { OnErr result ((n : ℕ) → learnt self.new n ≡ learnt self.old n) }
+        ensures unchanged { OnErr result ((n : ℕ) → learnt self.new n ≡ learnt self.old n) }
     {
         match self.generic(name) {
             Some(index) => {

@@ -2,7 +2,7 @@
 
 ghost use Rattle.std.specs.Prelude.{◌≡◌, ◌==◌, map, IfOk};
 ghost use Rattle.std.specs.List.{slice_split};
-ghost use Rattle.neli_tables.specs.Text.{begins_comment, words_in, worded_in, worded_seen};
+ghost use Rattle.neli_tables.specs.Text.{begins_comment, words_in, worded_in, worded_view};
 
 use std::alloc::{AllocError, Global};
 
@@ -43,7 +43,7 @@ fn words_of<'t>(alloc: Global, line: &'t [u8]) -> Result<Vec<&'t [u8]>, AllocErr
 
 /// Returns the lines of a text that have words.
 pub(crate) fn worded_lines<'t>(alloc: Global, text: &'t [u8]) -> Result<Vec<Worded<'t>>, AllocError>
-    ensures { IfOk result (λ lines. map worded_seen lines.items ≡ worded_in text.now) }
+    ensures { IfOk result (λ lines. map worded_view lines.items ≡ worded_in text.now) }
 {
     let lines = parts_of(alloc, text)?;
     let mut worded = Vec::new(alloc);

@@ -1,7 +1,7 @@
 //! What lines are found by.
 
 ghost use Rattle.std.specs.Prelude.{◌≡◌, ◌<◌};
-ghost use Rattle.neli_tables.specs.Lines.{line_seen};
+ghost use Rattle.neli_tables.specs.Lines.{line_view};
 ghost use Rattle.neli_tables.specs.RowKeys.{goes, group_key, is_row, key_of, message_key, message_key_of};
 ghost use Rattle.neli_tables.specs.RowKeys.{numbered};
 ghost use Rattle.neli_tables.specs.RowKeys.{rest_key, row_key, section_after, way_number};
@@ -94,7 +94,7 @@ pub fn section_after(section: usize, place: usize, word: Word) -> usize
 
 /// The key of a message with these options.
 fn message_key_of(line: &Line<'_>, span: Span) -> Key
-    ensures { result ≡ message_key_of (line_seen line.now) span.first }
+    ensures { result ≡ message_key_of (line_view line.now) span.first }
 {
     let options = options_of(line);
     message_key(goes(&options), options.family, span.first)
@@ -102,7 +102,7 @@ fn message_key_of(line: &Line<'_>, span: Span) -> Key
 
 /// What a line of this section is found by, if it is.
 pub fn key_of(section: usize, line: &Line<'_>) -> Option<Key>
-    ensures { result ≡ key_of section (line_seen line.now) }
+    ensures { result ≡ key_of section (line_view line.now) }
 {
     match line.word {
         Word::Each | Word::Else => Some(rest_key(section)),

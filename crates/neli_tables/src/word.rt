@@ -1,7 +1,7 @@
 //! The first word of a line.
 
 ghost use Rattle.std.specs.Prelude.{◌≡◌, map};
-ghost use Rattle.neli_tables.specs.Rows.{row_seen};
+ghost use Rattle.neli_tables.specs.Rows.{row_view};
 ghost use Rattle.neli_tables.specs.Words.{word_named, words};
 
 use crate::rows::row_named;
@@ -60,7 +60,7 @@ static WORDS: [(&[u8], Word); 14] = [
 /// The whole table.
 #[tactic(auto, unfolding(crate::specs::Words::words))]
 fn word_rows() -> &'static [(&'static [u8], Word)]
-    ensures { map row_seen result.now ≡ words }
+    ensures { map row_view result.now ≡ words }
 {
     &WORDS
 }

@@ -121,13 +121,13 @@ shape_wrong table row s bytes = row_wrong table row bytes
 abbrev pub Where : Type 0
 Where = List Step × Wrong
 
-abbrev pub violation_seen : Violation → Where
-violation_seen violation = (violation.place.path.steps.items, violation.wrong)
+abbrev pub violation_view : Violation → Where
+violation_view violation = (violation.place.path.steps.items, violation.wrong)
 
 -- the result of a check
-abbrev pub check_seen : Result (Unit {0}) Violation → Option Where
-check_seen (Ok _) = None
-check_seen (Err violation) = Some (violation_seen violation)
+abbrev pub check_view : Result (Unit {0}) Violation → Option Where
+check_view (Ok _) = None
+check_view (Err violation) = Some (violation_view violation)
 
 abbrev pub row_of : Option Step → Option ℕ
 row_of None = None

@@ -2,7 +2,7 @@
 
 ghost use Rattle.std.specs.Prelude.{◌≡◌};
 ghost use Rattle.std.specs.Option.{option_map};
-ghost use Rattle.neli_tables_walk.specs.Bodies.{body_seen};
+ghost use Rattle.neli_tables_walk.specs.Bodies.{body_view};
 ghost use Rattle.neli_tables_check.specs.Offsets.{body_start, found_at};
 
 use crate::Place;
@@ -15,7 +15,7 @@ use neli_tables_walk::{Body, GENERIC_HEADER_SIZE, Shape};
 /// attribute is there.
 pub fn find<'w, 't>(body: &Body<'_, 'w, 't>, offset: usize) -> Option<Place<'w, 't>>
     ensures { option_map (λ place. place.path.steps.items) result
-        ≡ found_at (body_seen body.now) offset }
+        ≡ found_at (body_view body.now) offset }
 {
     let context = body.context()?;
     let Shape::Nest(nest) = body.shape() else {
@@ -34,7 +34,7 @@ pub fn find<'w, 't>(body: &Body<'_, 'w, 't>, offset: usize) -> Option<Place<'w, 
 
 /// The offset of a body in its message.
 fn body_start(body: &Body<'_, '_, '_>) -> usize
-    ensures { result ≡ body_start (body_seen body.now) }
+    ensures { result ≡ body_start (body_view body.now) }
 {
     match body.generic {
         Some(_) => MESSAGE_HEADER_SIZE + GENERIC_HEADER_SIZE,

@@ -2,7 +2,7 @@
 
 ghost use Rattle.std.specs.Prelude.{◌≡◌, Some};
 ghost use Rattle.std.specs.Option.{option_map};
-ghost use Rattle.neli_tables.specs.Lines.{line_seen};
+ghost use Rattle.neli_tables.specs.Lines.{line_view};
 ghost use Rattle.neli_tables_check.specs.Paths.{attr_name, later_text, path_text, step_name};
 ghost use Rattle.neli_tables_check.specs.Paths.{step_text};
 
@@ -104,7 +104,7 @@ impl<'w, 't> StepText<'w, 't> {
 
 /// The name of a row, where that is an attribute's own.
 fn attr_name<'t>(line: &Line<'t>) -> Option<Name<'t>>
-    ensures { option_map (λ name. name.0.now) result ≡ attr_name (line_seen line.now) }
+    ensures { option_map (λ name. name.0.now) result ≡ attr_name (line_view line.now) }
 {
     match line.word {
         Word::Attr => Some(Name(line.name)),

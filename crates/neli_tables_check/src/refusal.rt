@@ -2,7 +2,7 @@
 
 ghost use Rattle.std.specs.Prelude.{◌≡◌, Some};
 ghost use Rattle.std.specs.Option.{option_map};
-ghost use Rattle.neli_tables_walk.specs.Bodies.{body_seen};
+ghost use Rattle.neli_tables_walk.specs.Bodies.{body_view};
 ghost use Rattle.neli_tables_check.specs.Refusals.{error_text, offset_in, place_of, place_text};
 ghost use Rattle.neli_tables_check.specs.Refusals.{refusal_text, said_text, text_of};
 
@@ -32,7 +32,7 @@ impl<'b, 'w, 't> Refusal<'b, 'w, 't> {
         ensures number { result.number ≡ number }
         ensures text { option_map (λ text. text.now) result.text ≡ text_of attributes.now }
         ensures place { option_map (λ place. place.path.steps.items) result.place
-            ≡ place_of (body_seen request.now) attributes.now }
+            ≡ place_of (body_view request.now) attributes.now }
     {
         Refusal {
             number,
@@ -53,7 +53,7 @@ fn text_of(attributes: &[u8]) -> Option<&[u8]>
 /// The attribute that is at the offset among the attributes of an acknowledgement.
 fn place_of<'w, 't>(request: &Body<'_, 'w, 't>, attributes: &[u8]) -> Option<Place<'w, 't>>
     ensures { option_map (λ place. place.path.steps.items) result
-        ≡ place_of (body_seen request.now) attributes.now }
+        ≡ place_of (body_view request.now) attributes.now }
 {
     let bytes = first_payload(attributes, u16::from(NlmsgerrAttr::Offset))?;
     find(request, offset_in(bytes)?)

@@ -1,10 +1,10 @@
 //! Checks a body by its table.
 
 ghost use Rattle.std.specs.Prelude.{◌≡◌, Some};
-ghost use Rattle.neli_tables_walk.specs.Bodies.{body_seen};
-ghost use Rattle.neli_tables_walk.specs.Walks.{item_seen};
-ghost use Rattle.neli_tables_check.specs.Violations.{check_seen, items_violation, last_row};
-ghost use Rattle.neli_tables_check.specs.Violations.{violation_in, violation_seen, violation_text};
+ghost use Rattle.neli_tables_walk.specs.Bodies.{body_view};
+ghost use Rattle.neli_tables_walk.specs.Walks.{item_view};
+ghost use Rattle.neli_tables_check.specs.Violations.{check_view, items_violation, last_row};
+ghost use Rattle.neli_tables_check.specs.Violations.{violation_in, violation_view, violation_text};
 ghost use Rattle.neli_tables_check.specs.Violations.{wrong_of};
 
 use crate::values::shape_wrong;
@@ -37,7 +37,7 @@ impl fmt::Display for Violation<'_, '_> {
 ///
 /// Refused with the first violation, in the order of a walk: the body's own first.
 pub fn check<'w, 't>(body: &Body<'_, 'w, 't>) -> Result<(), Violation<'w, 't>>
-    ensures { check_seen result ≡ violation_in (body_seen body.now) }
+    ensures { check_view result ≡ violation_in (body_view body.now) }
 {
     let Some(table) = body.table else {
         return Ok(());
@@ -53,7 +53,7 @@ pub fn check<'w, 't>(body: &Body<'_, 'w, 't>) -> Result<(), Violation<'w, 't>>
 
 /// A violation at a path.
 fn violation_at<'w, 't>(table: &'w Table<'t>, path: Path, wrong: Wrong) -> Violation<'w, 't>
-    ensures { violation_seen result ≡ (path.steps.items, wrong) }
+    ensures { violation_view result ≡ (path.steps.items, wrong) }
 {
     let place = Place { table, path };
     Violation { place, wrong }
@@ -64,7 +64,7 @@ fn check_items<'w, 't>(
     table: &'w Table<'t>,
     walk: Walk<'_, 'w, 't>,
 ) -> Result<(), Violation<'w, 't>>
-    ensures { check_seen result ≡ items_violation table.now walk.entry }
+    ensures { check_view result ≡ items_violation table.now walk.entry }
 {
     for item in walk {
         if let Some(wrong) = wrong_of(table, &item) {
@@ -83,7 +83,7 @@ fn last_row(steps: &[Step]) -> Option<usize>
 
 /// What is wrong at an item, if something is.
 fn wrong_of(table: &Table<'_>, item: &Item<'_>) -> Option<Wrong>
-    ensures { result ≡ wrong_of table.now (item_seen item.now) }
+    ensures { result ≡ wrong_of table.now (item_view item.now) }
 {
     match &item.content {
         Ok(found) => {

@@ -5,7 +5,7 @@ use Rattle.std.specs.Option.{option_map}
 use Rattle.neli_attr.specs.TypeField.{type_of}
 use Rattle.neli_attr.specs.AttrType.{AttrType}
 use Rattle.neli_lent.specs.declared.attribute.LentAttr.{LentAttr}
-use Rattle.neli_lent.specs.Attributes.{attribute_said, attributes_at}
+use Rattle.neli_lent.specs.Attributes.{attribute_view, attributes_at}
 use Rattle.neli_lent.specs.Walks.{find_in, found_or, map_found}
 use Rattle.neli_wire.specs.declared.errors.DeError.{DeError}
 use Rattle.neli_wire.specs.Place.{Place}
@@ -45,13 +45,13 @@ Found = Result (Option (LentAttr (AttrType ℕ))) DeError
 
 -- the payload of what was found
 abbrev pub payload_in : Found → Option (List ℕ)
-payload_in found = option_map (λ (a : Lent). a.1) (value_of (map_found attribute_said found))
+payload_in found = option_map (λ (a : Lent). a.1) (value_of (map_found attribute_view found))
 
 pub payload-is : (number : ℕ) (bytes : List ℕ) (place : Place) (found seen : Found) → place.rest
     ≡ bytes
-    → map_found attribute_said found
+    → map_found attribute_view found
     ≡ find_in (has_number number) (attributes_at (type_of (λ n. n)) place)
     → found ≡ seen → payload_in seen ≡ first_payload number bytes
 payload-is number bytes place found seen rest is same =
     sym (ap payload_in same)
-    ∙ payload-found number bytes place (map_found attribute_said found) rest is
+    ∙ payload-found number bytes place (map_found attribute_view found) rest is

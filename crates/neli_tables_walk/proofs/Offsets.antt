@@ -12,9 +12,9 @@ use Rattle.neli_tables_walk.specs.declared.level.Level.{Level}
 use Rattle.neli_tables_walk.specs.declared.level.Sort.{Sort}
 use Rattle.neli_tables_walk.specs.declared.offset.Place.{Place}
 use Rattle.neli_tables_walk.specs.Elements.{Elem, Elements, element_at, elements_of}
-use Rattle.neli_tables_walk.specs.Found.{At, Stepped, containing, element_size, place_seen, step_at}
+use Rattle.neli_tables_walk.specs.Found.{At, Stepped, containing, element_size, place_view, step_at}
 use Rattle.neli_tables_walk.specs.Found.{steps_at, steps_of}
-use Rattle.neli_tables_walk.specs.Shapes.{ContextSeen, ListSeen, listed_seen}
+use Rattle.neli_tables_walk.specs.Shapes.{ContextSeen, ListSeen, listed_view}
 use Rattle.neli_tables_walk.proofs.Lists.{elements-end, elements-fault, elements-more}
 use Rattle.neli_tables_walk.proofs.Walks.{lists, lists-last}
 
@@ -53,8 +53,8 @@ room-left n full value false_is fits =
     omega (arith, other, fits)
 
 -- the view of a step
-abbrev pub stepped_seen : Option (Step × Option Place) → Stepped
-stepped_seen r = option_map (λ (s : Step × Option Place). (s.0, option_map place_seen s.1)) r
+abbrev pub stepped_view : Option (Step × Option Place) → Stepped
+stepped_view r = option_map (λ (s : Step × Option Place). (s.0, option_map place_view s.1)) r
 
 module _ (c : ContextSeen) where
   steps-at : (d : ℕ) (around : List ListSeen) (at : At) (s : Stepped) → s ≡ step_at c around at
@@ -74,16 +74,16 @@ module _ (c : ContextSeen) where
 
     module _ (s : List Step) (levels : List Level) (at : At) (r : Option (Step × Option Place))
         (is : Follows s levels at) (room : length s < 10)
-        (seen : stepped_seen r ≡ step_at c (lists levels) at) where
+        (seen : stepped_view r ≡ step_at c (lists levels) at) where
       abbrev from : Option (Step × Option Place) → List Step
-      from x = s ++ steps_of (steps_at (9 - length s) c (at.0 ∷ lists levels)) (stepped_seen x)
+      from x = s ++ steps_of (steps_at (9 - length s) c (at.0 ∷ lists levels)) (stepped_view x)
 
       next : steps_at 10 c [] start ≡ from r
       next =
           let one : 10 - length s ≡ suc (9 - length s) = omega (arith, room) in
           is ∙ ap (λ (n : ℕ). s ++ steps_at n c (lists levels) at) one
           ∙ ap (λ (x : List Step). s
-          ++ x) (steps-at (9 - length s) (lists levels) at (stepped_seen r) seen)
+          ++ x) (steps-at (9 - length s) (lists levels) at (stepped_view r) seen)
 
       -- no element is at the offset
       pub follows-none : r ≡ None → s ≡ steps_at 10 c [] start
@@ -96,8 +96,8 @@ module _ (c : ContextSeen) where
 
       -- a step further in, through one more level
       pub follows-more : (step : Step) (inner : Place) (level : Level) → r ≡ Some (step, Some inner)
-          → listed_seen level.list ≡ at.0
-          → Follows (s ++ step ∷ []) (levels ++ level ∷ []) (place_seen inner)
+          → listed_view level.list ≡ at.0
+          → Follows (s ++ step ∷ []) (levels ++ level ∷ []) (place_view inner)
       follows-more step inner level more level_is =
           let longer : length (s ++ step ∷ []) ≡ length s + 1 = length-append s (step ∷ []) in
           let left : 9 - length s ≡ 10 - length (s ++ step ∷ []) = omega (arith, longer) in
@@ -105,11 +105,11 @@ module _ (c : ContextSeen) where
           lists-last levels level ∙ ap (λ (x : ListSeen). x ∷ lists levels) level_is in
           next ∙ ap from more
           ∙ sym (append_assoc s (step ∷ []) (steps_at (9 - length s) c (at.0 ∷ lists levels)
-          (place_seen inner)))
+          (place_view inner)))
           ∙ ap (λ (n : ℕ). (s ++ step ∷ [])
-          ++ steps_at n c (at.0 ∷ lists levels) (place_seen inner)) left
+          ++ steps_at n c (at.0 ∷ lists levels) (place_view inner)) left
           ∙ ap (λ (around : List ListSeen). (s ++ step ∷ [])
-          ++ steps_at (10 - length (s ++ step ∷ [])) c around (place_seen inner)) (sym deeper)
+          ++ steps_at (10 - length (s ++ step ∷ [])) c around (place_view inner)) (sym deeper)
 
     -- no room remains
     pub follows-full : (s : List Step) (levels : List Level) (at : At) → Follows s levels at

@@ -17,9 +17,9 @@ use Rattle.neli_tables_walk.specs.declared.shape.Shape.TheVariants.{Row, Nest, H
 use Rattle.neli_tables_walk.specs.declared.shape.Shape.TheVariants.{Deep}
 use Rattle.neli_tables_walk.specs.Elements.{Elem, Elements, Left, element_at, element_before}
 use Rattle.neli_tables_walk.specs.Elements.{elements_of}
-use Rattle.neli_tables_walk.specs.Shapes.{ContextSeen, ListSeen, listed_seen, onto}
+use Rattle.neli_tables_walk.specs.Shapes.{ContextSeen, ListSeen, listed_view, onto}
 use Rattle.neli_tables_walk.specs.Walks.{Seen, closed, element_item, element_seen_at, inner_items}
-use Rattle.neli_tables_walk.specs.Walks.{Enters, later_level, left_items, left_seen}
+use Rattle.neli_tables_walk.specs.Walks.{Enters, later_level, left_items, left_view}
 use Rattle.neli_tables_walk.specs.Walks.{attributes_sort, hops_sort, level_items, list_of}
 use Rattle.neli_tables_walk.specs.Walks.{open_items, shape_in, sort_in, step_of, walked}
 use Rattle.neli_tables_walk.proofs.Lists.{elements-end, elements-fault, elements-more}
@@ -75,12 +75,12 @@ abbrev pub lists : List Level → List ListSeen
 lists levels = onto levels []
 
 onto-last : (levels : List Level) (last : Level) (around : List ListSeen)
-    → onto (levels ++ last ∷ []) around ≡ listed_seen last.list ∷ onto levels around
+    → onto (levels ++ last ∷ []) around ≡ listed_view last.list ∷ onto levels around
 onto-last [] last around = refl
-onto-last (level ∷ levels) last around = onto-last levels last (listed_seen level.list ∷ around)
+onto-last (level ∷ levels) last around = onto-last levels last (listed_view level.list ∷ around)
 
 pub lists-last : (levels : List Level) (last : Level)
-    → lists (levels ++ last ∷ []) ≡ listed_seen last.list ∷ lists levels
+    → lists (levels ++ last ∷ []) ≡ listed_view last.list ∷ lists levels
 lists-last levels last = onto-last levels last []
 
 open-last-in : (c : ContextSeen) (path : List Step) (around : List ListSeen) (levels : List Level)
@@ -93,7 +93,7 @@ open-last-in c path around [] last =
     ∙ append-nil (level_items c path around last))
 open-last-in c path around (level ∷ levels) last =
     let deeper = path ++ level.inside ∷ [] in
-    let inner = listed_seen level.list ∷ around in
+    let inner = listed_view level.list ∷ around in
     ap (λ (x : List Seen). x ++ level_items c path around level)
     (open-last-in c deeper inner levels last)
     ∙ append_assoc (level_items c (deeper ++ insides levels) (onto levels inner) last)
@@ -114,7 +114,7 @@ open-last c levels last = open-last-in c [] [] levels last
 -- the items of what is left of the innermost list
 abbrev at_last : ContextSeen → List Level → Level → Elements → List Seen
 at_last c levels last elements =
-    walked c (9 - length (insides levels)) (insides levels) (lists levels) (listed_seen last.list)
+    walked c (9 - length (insides levels)) (insides levels) (lists levels) (listed_view last.list)
     elements
 
 -- nothing is left of it
@@ -125,7 +125,7 @@ open-end c levels last none =
     ∙ ap (λ (e : Elements). at_last c levels last e ++ items c levels)
     (elements-end last.list.sort last.rest.now none)
     ∙ ap (λ (x : List Seen). x ++ items c levels) (walked-none c (insides levels) (lists levels)
-    (listed_seen last.list) (9 - length (insides levels)) None)
+    (listed_view last.list) (9 - length (insides levels)) None)
 
 -- a list of which nothing is left may be taken out
 pub open-out : (c : ContextSeen) (levels old : List Level) (last : Level)
@@ -134,31 +134,31 @@ open-out c levels old last old_is none = ap (items c) old_is ∙ open-end c leve
 
 -- what a nest has comes before what else is left
 pub open-nest : (c : ContextSeen) (levels new : List Level) (nest : Level) (list : ListSeen)
-    → new ≡ levels ++ nest ∷ [] → listed_seen nest.list ≡ list → nest.rest.now ≡ list.1
+    → new ≡ levels ++ nest ∷ [] → listed_view nest.list ≡ list → nest.rest.now ≡ list.1
     → items c new
     ≡ inner_items (walked c (9 - length levels) (insides levels) (lists levels)) (Some list)
     ++ items c levels
 open-nest c levels new nest list new_is list_is rest_is =
     ap (items c) new_is
     ∙ open-last c levels nest
-    ∙ ap (λ (n : ℕ). walked c (9 - n) (insides levels) (lists levels) (listed_seen nest.list)
+    ∙ ap (λ (n : ℕ). walked c (9 - n) (insides levels) (lists levels) (listed_view nest.list)
     (elements_of nest.list.sort nest.rest.now) ++ items c levels)
     (length-map levels (λ (l : Level). l.inside))
     ∙ ap (λ (b : List ℕ). walked c (9 - length levels) (insides levels) (lists levels)
-    (listed_seen nest.list) (elements_of nest.list.sort b) ++ items c levels) rest_is
+    (listed_view nest.list) (elements_of nest.list.sort b) ++ items c levels) rest_is
     ∙ ap (λ (l : ListSeen). walked c (9 - length levels) (insides levels) (lists levels) l
     (elements_of l.0 list.1) ++ items c levels) list_is
 
 -- a fault is left of it
 pub open-fault : (c : ContextSeen) (levels : List Level) (last : Level) (e : DeError)
     → last.rest.now ≢ [] → element_at last.list.sort last.rest.now ≡ Err e
-    → items c (levels ++ last ∷ []) ≡ left_seen (insides levels) last.rest.now e ∷ items c levels
+    → items c (levels ++ last ∷ []) ≡ left_view (insides levels) last.rest.now e ∷ items c levels
 open-fault c levels last e any is =
     open-last c levels last
     ∙ ap (λ (x : Elements). at_last c levels last x ++ items c levels)
     (elements-fault last.list.sort last.rest.now e any is)
     ∙ ap (λ (x : List Seen). x ++ items c levels) (walked-none c (insides levels) (lists levels)
-    (listed_seen last.list) (9 - length (insides levels)) (Some (last.rest.now, e)))
+    (listed_view last.list) (9 - length (insides levels)) (Some (last.rest.now, e)))
 
 -- ---- an element is left of it
 
@@ -168,7 +168,7 @@ module _ (c : ContextSeen) (levels : List Level) (last : Level) (rest : Bor (Lis
   depth = 9 - length (insides levels)
 
   abbrev list : ListSeen
-  list = listed_seen last.list
+  list = listed_view last.list
 
   abbrev found : Shape
   found = shape_in c list (lists levels) e
@@ -254,11 +254,11 @@ pub given-fault : (c : ContextSeen) (levels new : List Level) (last ended : Leve
     (path : List Step) → path ≡ insides levels → new ≡ levels ++ ended ∷ []
     → ended.rest.now ≡ [] → last.rest.now ≢ []
     → element_at last.list.sort last.rest.now ≡ Err e
-    → left_seen path last.rest.now e ∷ items c new ≡ items c (levels ++ last ∷ [])
+    → left_view path last.rest.now e ∷ items c new ≡ items c (levels ++ last ∷ [])
 given-fault c levels new last ended e path path_is new_is none any is =
-    ap (λ (p : List Step). left_seen p last.rest.now e ∷ items c new) path_is
-    ∙ ap (λ (xs : List Level). left_seen (insides levels) last.rest.now e ∷ items c xs) new_is
-    ∙ ap (λ (x : List Seen). left_seen (insides levels) last.rest.now e ∷ x)
+    ap (λ (p : List Step). left_view p last.rest.now e ∷ items c new) path_is
+    ∙ ap (λ (xs : List Level). left_view (insides levels) last.rest.now e ∷ items c xs) new_is
+    ∙ ap (λ (x : List Seen). left_view (insides levels) last.rest.now e ∷ x)
     (open-end c levels ended none)
     ∙ sym (open-fault c levels last e any is)
 
@@ -283,7 +283,7 @@ module _ (c : ContextSeen) (levels : List Level) (last : Level) (rest : Bor (Lis
   pub given-element : (step : Step) (path : List Step) (found shape : Shape)
       (pushed new : List Level) → length levels < 10 → path ≡ insides levels ++ step ∷ []
       → step ≡ step_of c last.list.sort e
-      → found ≡ shape_in c (listed_seen last.list) (lists levels) e → pushed ≡ later step
+      → found ≡ shape_in c (listed_view last.list) (lists levels) e → pushed ≡ later step
       → (length pushed ≡ 10 → (shape ≡ closed found) × (items c new ≡ items c pushed))
       → (length pushed < 10 → (shape ≡ found) × (items c new ≡ inner_in pushed found))
       → element_seen_at path e.0 e.1 shape ∷ items c new ≡ items c (levels ++ last ∷ [])

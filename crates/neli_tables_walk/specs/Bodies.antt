@@ -29,8 +29,8 @@ use Rattle.neli_tables_walk.specs.declared.head.Head.{Head}
 abbrev pub BodySeen : Type 0
 BodySeen = Option Lines × Option ℕ × Option GenericHeader × List ℕ
 
-abbrev pub body_seen : Body → BodySeen
-body_seen body =
+abbrev pub body_view : Body → BodySeen
+body_view body =
     (option_map (λ table. table.now) body.table, body.line, body.generic, body.bytes.now)
 
 -- ---- the header

@@ -13,8 +13,8 @@ use Rattle.neli_tables_walk.specs.declared.head.Head.{Head}
 use Rattle.neli_tables_walk.specs.Bodies.{generic_header}
 
 -- a number and a name that is lent
-abbrev pub pair_seen : ℕ × Bor (List ℕ) → ℕ × List ℕ
-pair_seen pair = (pair.0, pair.1.now)
+abbrev pub pair_view : ℕ × Bor (List ℕ) → ℕ × List ℕ
+pair_view pair = (pair.0, pair.1.now)
 
 -- the payload of the first attribute with this number
 abbrev pub first_payload : ℕ → List ℕ → Option (List ℕ)

@@ -17,8 +17,8 @@ use Rattle.neli_tables_walk.specs.declared.level.Sort.{Sort}
 abbrev pub Elem : Type 0
 Elem = Option (AttrType ℕ) × List ℕ
 
-abbrev pub element_seen : Element → Elem
-element_seen element = (element.kind, element.payload.now)
+abbrev pub element_view : Element → Elem
+element_view element = (element.kind, element.payload.now)
 
 -- ---- one element
 

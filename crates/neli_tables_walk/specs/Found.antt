@@ -8,15 +8,15 @@ use Rattle.neli_tables_walk.specs.declared.level.Sort.{Sort}
 use Rattle.neli_tables_walk.specs.declared.offset.Place.{Place}
 use Rattle.neli_tables_walk.specs.declared.shape.Nest.{Nest as NestOf}
 use Rattle.neli_tables_walk.specs.Elements.{Elem, elements_of}
-use Rattle.neli_tables_walk.specs.Shapes.{ContextSeen, ListSeen, listed_seen}
+use Rattle.neli_tables_walk.specs.Shapes.{ContextSeen, ListSeen, listed_view}
 use Rattle.neli_tables_walk.specs.Walks.{attributes_sort, list_of, nested_bytes, shape_in, step_of}
 
 -- an offset in a list
 abbrev pub At : Type 0
 At = ListSeen × ℕ
 
-abbrev pub place_seen : Place → At
-place_seen place = (listed_seen place.list, place.offset)
+abbrev pub place_view : Place → At
+place_view place = (listed_view place.list, place.offset)
 
 -- ---- one list
 

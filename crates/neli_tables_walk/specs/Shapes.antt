@@ -31,15 +31,15 @@ Lines = List LineSeen
 abbrev pub ContextSeen : Type 0
 ContextSeen = Lines × ℕ
 
-abbrev pub context_seen : Context → ContextSeen
-context_seen context = (context.table.now, context.family)
+abbrev pub context_view : Context → ContextSeen
+context_view context = (context.table.now, context.family)
 
 -- a list: what it has, and its bytes
 abbrev pub ListSeen : Type 0
 ListSeen = Sort × List ℕ
 
-abbrev pub listed_seen : Listed → ListSeen
-listed_seen list = (list.sort, list.bytes.now)
+abbrev pub listed_view : Listed → ListSeen
+listed_view list = (list.sort, list.bytes.now)
 
 -- the attributes that bytes list, and the fault after them
 abbrev pub attributes_of : List ℕ → Cut Lent
@@ -204,4 +204,4 @@ row_shape context lists (Some place) payload =
 -- the lists that these levels are, from the innermost out, before others
 abbrev pub onto : List Level → List ListSeen → List ListSeen
 onto [] lists = lists
-onto (level ∷ levels) lists = onto levels (listed_seen level.list ∷ lists)
+onto (level ∷ levels) lists = onto levels (listed_view level.list ∷ lists)

@@ -7,7 +7,7 @@ use Rattle.neli_tables_walk.specs.declared.item.Rest.{Rest}
 use Rattle.neli_tables_walk.specs.declared.item.Step.{Step}
 use Rattle.neli_tables_walk.specs.declared.item.Visit.{Visit}
 use Rattle.neli_tables_walk.specs.declared.level.Level.{Level}
-use Rattle.neli_tables_walk.specs.Walks.{Said, Seen, content_seen}
+use Rattle.neli_tables_walk.specs.Walks.{Said, Seen, content_view}
 
 -- the number of lists around an item: the parts of its path, and one more around what is left of a
 -- list
@@ -31,15 +31,15 @@ Visited = ℕ × Option Step × Result Said (List ℕ × DeError)
 abbrev pub visited : Seen → Visited
 visited item = (lists_with (length item.0) item.1, own_step item.0 item.1, item.1)
 
-abbrev pub visit_seen : Visit → Visited
-visit_seen v = (v.lists, v.step, content_seen v.content)
+abbrev pub visit_view : Visit → Visited
+visit_view v = (v.lists, v.step, content_view v.content)
 
 -- the first of these items is visited, if there is one, and the others are left; it stands in ten
 -- lists at most
 abbrev pub VisitsFirst : List Seen → Option Visit → List Seen → Type 0
 VisitsFirst items None left = (items ≡ []) × (left ≡ [])
 VisitsFirst items (Some v) left =
-    (item : Seen) × (items ≡ item ∷ left) × (visited item ≡ visit_seen v) × (v.lists ≤ 10)
+    (item : Seen) × (items ≡ item ∷ left) × (visited item ≡ visit_view v) × (v.lists ≤ 10)
 
 -- ---- the path of what is visited, by the lists that are open after it
 
@@ -56,7 +56,7 @@ path_in levels parts = map (λ (l : Level). l.inside) (take parts levels)
 
 -- the item
 abbrev pub item_at : Visit → List Level → Seen
-item_at v levels = (path_in levels (parts_of v), content_seen v.content)
+item_at v levels = (path_in levels (parts_of v), content_view v.content)
 
 -- what was left before it, where `later` is left after it: nothing where there is none
 abbrev pub next_at : Option Visit → List Level → List Seen → List Seen

@@ -18,7 +18,7 @@ use Rattle.neli_tables_walk.specs.declared.shape.Nest.{Nest as NestOf}
 use Rattle.neli_tables_walk.specs.declared.shape.Shape.{Shape}
 use Rattle.neli_tables_walk.specs.declared.shape.Shape.TheVariants.{Nest, Hops, Deep}
 use Rattle.neli_tables_walk.specs.Elements.{Elem, Elements, Left, elements_of}
-use Rattle.neli_tables_walk.specs.Shapes.{ContextSeen, Lines, ListSeen, listed_seen, onto, row_shape}
+use Rattle.neli_tables_walk.specs.Shapes.{ContextSeen, Lines, ListSeen, listed_view, onto, row_shape}
 
 -- what is said of an element: its type field, its payload's bytes, and what these are
 abbrev pub Said : Type 0
@@ -28,13 +28,13 @@ Said = Option (AttrType ℕ) × List ℕ × Shape
 abbrev pub Seen : Type 0
 Seen = List Step × Result Said (List ℕ × DeError)
 
-abbrev pub content_seen : Result Found Rest → Result Said (List ℕ × DeError)
-content_seen (Ok f) = Ok (f.kind, f.payload.now, f.shape)
-content_seen (Err r) = Err (r.bytes.now, r.error)
+abbrev pub content_view : Result Found Rest → Result Said (List ℕ × DeError)
+content_view (Ok f) = Ok (f.kind, f.payload.now, f.shape)
+content_view (Err r) = Err (r.bytes.now, r.error)
 
 -- what an item says
-abbrev pub item_seen : Item → Seen
-item_seen item = (item.path.steps.items, content_seen item.content)
+abbrev pub item_view : Item → Seen
+item_view item = (item.path.steps.items, content_view item.content)
 
 -- ---- one element of a list
 
@@ -74,13 +74,13 @@ element_item context path sort element s =
     element_seen_at (path ++ step_of context sort element ∷ []) element.0 element.1 s
 
 -- what is left, at a path
-abbrev pub left_seen : List Step → List ℕ → DeError → Seen
-left_seen path bytes e = (path, Err (bytes, e))
+abbrev pub left_view : List Step → List ℕ → DeError → Seen
+left_view path bytes e = (path, Err (bytes, e))
 
 -- the item of what is left, if something is
 abbrev pub left_items : List Step → Left → List Seen
 left_items path None = []
-left_items path (Some left) = left_seen path left.0 left.1 ∷ []
+left_items path (Some left) = left_view path left.0 left.1 ∷ []
 
 -- the attributes of a nest: they begin after its structure, which is padded to four bytes
 abbrev pub nested_bytes : NestOf → List ℕ → List ℕ
@@ -144,7 +144,7 @@ walk_items context nest body = list_items context (attributes_sort nest, nested_
 -- the items that are left of a list, at this path and in these lists
 abbrev pub level_items : ContextSeen → List Step → List ListSeen → Level → List Seen
 level_items context path around level =
-    walked context (9 - length path) path around (listed_seen level.list)
+    walked context (9 - length path) path around (listed_view level.list)
     (elements_of level.list.sort level.rest.now)
 
 -- the items that are left of lists of which each is in an element of the one before, the innermost
@@ -152,7 +152,7 @@ level_items context path around level =
 abbrev pub open_items : ContextSeen → List Step → List ListSeen → List Level → List Seen
 open_items context path around [] = []
 open_items context path around (level ∷ deeper) =
-    open_items context (path ++ level.inside ∷ []) (listed_seen level.list ∷ around) deeper
+    open_items context (path ++ level.inside ∷ []) (listed_view level.list ∷ around) deeper
     ++ level_items context path around level
 
 -- a list of which this is left, and of which this was given last
@@ -162,7 +162,7 @@ later_level level rest step = record level { rest = rest; inside = step }
 -- what a payload is that was given last of a list, which stands in these
 abbrev pub given_shape : ContextSeen → List Level → Level → List ℕ → Shape
 given_shape context around last payload =
-    listed_shape context (listed_seen last.list) (onto around []) last.inside.row payload
+    listed_shape context (listed_view last.list) (onto around []) last.inside.row payload
 
 -- the lists after these, and the shape that is given, where this was found of a payload: if it is a
 -- list, its items come before the others; if ten lists are open, it is not entered
@@ -186,4 +186,4 @@ EntersGiven context levels payload after shape =
 -- what was left before an item, where `later` is left after it: nothing where there is none
 abbrev pub next_item : Option Item → List Seen → List Seen
 next_item None later = []
-next_item (Some item) later = item_seen item ∷ later
+next_item (Some item) later = item_view item ∷ later

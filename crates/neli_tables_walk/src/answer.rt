@@ -1,7 +1,7 @@
 //! Answers, which all protocols have.
 
 ghost use Rattle.std.specs.Prelude.{◌≡◌};
-ghost use Rattle.neli_tables_walk.specs.Bodies.{answer_in, body_seen, counts_in_bodies};
+ghost use Rattle.neli_tables_walk.specs.Bodies.{answer_in, body_view, counts_in_bodies};
 ghost use Rattle.neli_tables_walk.specs.Bodies.{is_answer};
 
 use crate::located::{first_table, where_at};
@@ -36,7 +36,7 @@ pub fn answer_of<'b, 'w, 't>(
     head: Head,
     attributes: &'b [u8],
 ) -> Body<'b, 'w, 't>
-    ensures { body_seen result ≡ answer_in tables.now head attributes.now }
+    ensures { body_view result ≡ answer_in tables.now head attributes.now }
 {
     let number = head.message_type as u64;
     let place = tables.message(head.protocol as u64, Way::Reply, None, number);

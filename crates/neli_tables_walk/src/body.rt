@@ -2,8 +2,8 @@
 
 ghost use Rattle.std.specs.Prelude.{◌≡◌};
 ghost use Rattle.std.specs.Option.{option_map};
-ghost use Rattle.neli_tables_walk.specs.Shapes.{context_seen};
-ghost use Rattle.neli_tables_walk.specs.Bodies.{body_context, body_family, body_items, body_seen};
+ghost use Rattle.neli_tables_walk.specs.Shapes.{context_view};
+ghost use Rattle.neli_tables_walk.specs.Bodies.{body_context, body_family, body_items, body_view};
 ghost use Rattle.neli_tables_walk.specs.Bodies.{body_shape};
 ghost use Rattle.neli_tables_walk.specs.Bodies.{placed, unknown};
 
@@ -27,7 +27,7 @@ pub struct Body<'b, 'w, 't> {
 impl<'b, 'w, 't> Body<'b, 'w, 't> {
     /// Bytes of which nothing is known.
     pub(crate) fn unknown(bytes: &'b [u8]) -> Body<'b, 'w, 't>
-        ensures { body_seen result ≡ unknown bytes.now }
+        ensures { body_view result ≡ unknown bytes.now }
     {
         Body {
             table: None,
@@ -43,7 +43,7 @@ impl<'b, 'w, 't> Body<'b, 'w, 't> {
         place: Option<MessagePlace>,
         bytes: &'b [u8],
     ) -> Body<'b, 'w, 't>
-        ensures { body_seen result ≡ placed tables.now place bytes.now }
+        ensures { body_view result ≡ placed tables.now place bytes.now }
     {
         let Some(place) = place else {
             return Body::unknown(bytes);
@@ -59,7 +59,7 @@ impl<'b, 'w, 't> Body<'b, 'w, 't> {
 
     /// The address family: the first byte of the body; 0 where it has none, and in generic netlink.
     pub fn family(&self) -> u8
-        ensures { result ≡ body_family (body_seen self.now) }
+        ensures { result ≡ body_family (body_view self.now) }
     {
         if self.generic.is_some() {
             return 0;
@@ -69,7 +69,7 @@ impl<'b, 'w, 't> Body<'b, 'w, 't> {
 
     /// What its payloads are read by.
     pub fn context(&self) -> Option<Context<'w, 't>>
-        ensures { option_map context_seen result ≡ body_context (body_seen self.now) }
+        ensures { option_map context_view result ≡ body_context (body_view self.now) }
     {
         Some(Context {
             table: self.table?,
@@ -79,7 +79,7 @@ impl<'b, 'w, 't> Body<'b, 'w, 't> {
 
     /// What the body is by the line of its message; bytes where it has none.
     pub fn shape(&self) -> Shape
-        ensures { result ≡ body_shape (body_seen self.now) }
+        ensures { result ≡ body_shape (body_view self.now) }
     {
         match (self.context(), self.line) {
             (Some(context), Some(line)) => context.body_shape(line, self.bytes),
@@ -89,7 +89,7 @@ impl<'b, 'w, 't> Body<'b, 'w, 't> {
 
     /// The walk over its attributes, where it has a list of them.
     pub fn walk(&self) -> Option<Walk<'b, 'w, 't>>
-        ensures { result ≡ body_items (body_seen self.now) }
+        ensures { result ≡ body_items (body_view self.now) }
     {
         match self.shape() {
             Shape::Nest(nest) => Some(Walk::new(self.context()?, nest, self.bytes)),

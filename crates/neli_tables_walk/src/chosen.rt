@@ -3,8 +3,8 @@
 ghost use Rattle.std.specs.Prelude.{◌≡◌, ◌<◌, ◌∷◌, [], IfSome, None, Some, find, if◌then◌else◌};
 ghost use Rattle.std.specs.Prelude.{slice_get};
 ghost use Rattle.std.specs.Option.{option_map};
-ghost use Rattle.neli_tables_walk.specs.Shapes.{beside, chosen, context_seen, has_row};
-ghost use Rattle.neli_tables_walk.specs.Shapes.{kind_at, listed_seen, number_by};
+ghost use Rattle.neli_tables_walk.specs.Shapes.{beside, chosen, context_view, has_row};
+ghost use Rattle.neli_tables_walk.specs.Shapes.{kind_at, listed_view, number_by};
 ghost use Rattle.neli_tables_walk.specs.Shapes.{number_in, numbered, onto, picked_as, picker};
 ghost use Rattle.byteorder.specs.Endian.{big_number, little_number};
 
@@ -26,8 +26,8 @@ impl<'w, 't> Context<'w, 't> {
         around: &[Level<'_>],
         options: &Options,
     ) -> Option<usize>
-        ensures { result ≡ chosen (context_seen self.now)
-            (listed_seen list.now ∷ onto around.now []) options.now }
+        ensures { result ≡ chosen (context_view self.now)
+            (listed_view list.now ∷ onto around.now []) options.now }
     {
         let choice = options.of?;
         if options.by_family {
@@ -44,7 +44,7 @@ impl<'w, 't> Context<'w, 't> {
     /// whose set has the attribute's row.
     fn picker<'b>(&self, list: &Listed<'b>, around: &[Level<'b>], by: usize) -> Option<&'b [u8]>
         ensures { option_map (λ bytes. bytes.now) result
-            ≡ picker self.now.table.now (listed_seen list.now ∷ onto around.now []) by }
+            ≡ picker self.now.table.now (listed_view list.now ∷ onto around.now []) by }
     {
         let number = self.number_of(by)?;
         let found = self.listed_with(list, around, by, number)?;
@@ -69,9 +69,9 @@ impl<'w, 't> Context<'w, 't> {
         by: usize,
         number: u64,
     ) -> Option<Listed<'b>>
-        ensures { option_map listed_seen result
+        ensures { option_map listed_view result
             ≡ find (has_row self.now.table.now by number)
-            (listed_seen list.now ∷ onto around.now []) }
+            (listed_view list.now ∷ onto around.now []) }
     {
         match self.listed_here(list, by, number) {
             Some(found) => Some(found),
@@ -81,7 +81,7 @@ impl<'w, 't> Context<'w, 't> {
 
     /// The innermost of these lists in which this number means the row at this place.
     fn listed_around<'b>(&self, around: &[Level<'b>], by: usize, number: u64) -> Option<Listed<'b>>
-        ensures { option_map listed_seen result
+        ensures { option_map listed_view result
             ≡ find (has_row self.now.table.now by number) (onto around.now []) }
     {
         let mut left = around.len();
@@ -96,9 +96,9 @@ impl<'w, 't> Context<'w, 't> {
 
     /// This list, where this number means the row at this place in it.
     fn listed_here<'b>(&self, list: &Listed<'b>, by: usize, number: u64) -> Option<Listed<'b>>
-        ensures { option_map listed_seen result
-            ≡ if has_row self.now.table.now by number (listed_seen list.now)
-            then Some (listed_seen list.now) else None }
+        ensures { option_map listed_view result
+            ≡ if has_row self.now.table.now by number (listed_view list.now)
+            then Some (listed_view list.now) else None }
     {
         if self.has_row(list, by, number) {
             Some(*list)
@@ -109,7 +109,7 @@ impl<'w, 't> Context<'w, 't> {
 
     /// Whether a number means the row at this place in a list.
     fn has_row(&self, list: &Listed<'_>, by: usize, number: u64) -> bool
-        ensures { result ≡ has_row self.now.table.now by number (listed_seen list.now) }
+        ensures { result ≡ has_row self.now.table.now by number (listed_view list.now) }
     {
         match self.table.row(list.sort.nest.set, number) {
             Some(row) => !list.sort.is_hops && row == by,

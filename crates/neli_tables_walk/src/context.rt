@@ -2,9 +2,9 @@
 
 ghost use Rattle.std.specs.Prelude.{ℕ, ◌≡◌, List, ◌∷◌, [], IfSome, Some};
 ghost use Rattle.std.specs.Option.{option_map};
-ghost use Rattle.neli_tables_walk.specs.Shapes.{case_shape, context_seen, hops_shape, line_options};
+ghost use Rattle.neli_tables_walk.specs.Shapes.{case_shape, context_view, hops_shape, line_options};
 ghost use Rattle.neli_tables_walk.specs.declared.shape.Shape.TheVariants.{Row};
-ghost use Rattle.neli_tables_walk.specs.Shapes.{ListSeen, listed_seen};
+ghost use Rattle.neli_tables_walk.specs.Shapes.{ListSeen, listed_view};
 ghost use Rattle.neli_tables_walk.specs.Walks.{listed_shape};
 ghost use Rattle.neli_tables_walk.specs.Shapes.{nest_of, nest_shape};
 ghost use Rattle.neli_tables_walk.specs.Shapes.{onto, options_shape, row_shape, size_of};
@@ -101,7 +101,7 @@ impl<'w, 't> Context<'w, 't> {
         payload: &[u8],
     ) -> Shape
         ensures { result
-            ≡ listed_shape (context_seen self.now) (listed_seen list.now)
+            ≡ listed_shape (context_view self.now) (listed_view list.now)
             (onto around.now []) row payload.now }
     {
         if list.sort.is_hops {
@@ -116,7 +116,7 @@ impl<'w, 't> Context<'w, 't> {
     #[inline(always)]
     pub(crate) fn plain_row(&self, row: Option<usize>) -> Option<usize>
         ensures { IfSome result (λ place. (lists : List ListSeen) (payload : List ℕ)
-            → row_shape (context_seen self.now) lists row payload ≡ Row place) }
+            → row_shape (context_view self.now) lists row payload ≡ Row place) }
     {
         let place = row?;
         let options = self.line_options(place)?;
@@ -135,8 +135,8 @@ impl<'w, 't> Context<'w, 't> {
         payload: &[u8],
     ) -> Shape
         ensures { result
-            ≡ row_shape (context_seen self.now)
-            (listed_seen list.now ∷ onto around.now []) row payload.now }
+            ≡ row_shape (context_view self.now)
+            (listed_view list.now ∷ onto around.now []) row payload.now }
     {
         let Some(place) = row else {
             return Shape::Bytes;

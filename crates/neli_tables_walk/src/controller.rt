@@ -5,7 +5,7 @@ ghost use Rattle.std.specs.Option.{option_map};
 ghost use Rattle.neli_tables.specs.Families.{learnt, tables_in};
 ghost use Rattle.neli_tables_walk.specs.Controller.{family_said, first_payload, id_in};
 ghost use Rattle.neli_tables_walk.specs.Controller.{learnt_from, names_family};
-ghost use Rattle.neli_tables_walk.specs.Controller.{pair_seen};
+ghost use Rattle.neli_tables_walk.specs.Controller.{pair_view};
 
 use crate::generic::{GENERIC, GENERIC_HEADER_SIZE, generic_header};
 use crate::{Head, without_zero};
@@ -25,7 +25,7 @@ pub fn learn_from(tables: &mut Tables<'_>, head: Head, payload: &[u8]) -> Result
     ensures ok { OnOk result ((n : ℕ) → learnt tables.new n
         ≡ learnt_from (family_said head payload.now) (tables_in tables.old) n
         (learnt tables.old n)) }
-    ensures err { OnErr result ((n : ℕ) → learnt tables.new n ≡ learnt tables.old n) }
+    ensures unchanged { OnErr result ((n : ℕ) → learnt tables.new n ≡ learnt tables.old n) }
     ensures other { family_said head payload.now ≡ None → IsOk result }
 {
     match family_said(head, payload) {
@@ -36,7 +36,7 @@ pub fn learn_from(tables: &mut Tables<'_>, head: Head, payload: &[u8]) -> Result
 
 /// The number and the name of the family that a message of the controller names.
 fn family_said(head: Head, payload: &[u8]) -> Option<(u16, &[u8])>
-    ensures { option_map pair_seen result ≡ family_said head payload.now }
+    ensures { option_map pair_view result ≡ family_said head payload.now }
 {
     if !names_family(head, payload) {
         return None;

@@ -3,7 +3,7 @@
 ghost use Rattle.std.specs.Prelude.{◌≡◌, Ok, Err, IfErr, IfOk};
 ghost use Rattle.neli_wire.specs.Frames.{frame_at};
 ghost use Rattle.neli_tables_walk.specs.Elements.{attribute_layout, attribute_read, element_at};
-ghost use Rattle.neli_tables_walk.specs.Elements.{element_seen};
+ghost use Rattle.neli_tables_walk.specs.Elements.{element_view};
 ghost use Rattle.neli_tables_walk.specs.Elements.{hop_layout, hop_read, hop_size};
 
 use crate::level::Sort;
@@ -29,7 +29,7 @@ pub struct Element<'b> {
 #[inline(always)]
 pub fn take_element<'b>(sort: &Sort, bytes: &'b [u8]) -> Result<(Element<'b>, &'b [u8]), DeError>
     ensures value { IfOk result (λ r. element_at sort.now bytes.now
-        ≡ Ok (element_seen r.0, r.1.now)) }
+        ≡ Ok (element_view r.0, r.1.now)) }
     ensures refused { IfErr result (λ e. element_at sort.now bytes.now ≡ Err e) }
 {
     if sort.is_hops {
@@ -43,7 +43,7 @@ pub fn take_element<'b>(sort: &Sort, bytes: &'b [u8]) -> Result<(Element<'b>, &'
 #[inline(always)]
 fn take_attribute(bytes: &[u8]) -> Result<(Element<'_>, &[u8]), DeError>
     ensures value { IfOk result (λ r. attribute_read (frame_at attribute_layout bytes.now)
-        ≡ Ok (element_seen r.0, r.1.now)) }
+        ≡ Ok (element_view r.0, r.1.now)) }
     ensures refused { IfErr result (λ e. attribute_read (frame_at attribute_layout bytes.now)
         ≡ Err e) }
 {
@@ -71,7 +71,7 @@ fn hop_size(header: usize) -> usize
 #[tactic(auto, unfolding(neli_wire::specs::Frames::frame_at))]
 fn take_hop(header: usize, bytes: &[u8]) -> Result<(Element<'_>, &[u8]), DeError>
     ensures value { IfOk result (λ r. hop_read bytes.now (frame_at (hop_layout header) bytes.now)
-        ≡ Ok (element_seen r.0, r.1.now)) }
+        ≡ Ok (element_view r.0, r.1.now)) }
     ensures refused { IfErr result (λ e. hop_read bytes.now (frame_at (hop_layout header) bytes.now)
         ≡ Err e) }
 {

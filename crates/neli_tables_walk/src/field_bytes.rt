@@ -2,7 +2,7 @@
 
 ghost use Rattle.std.specs.Prelude.{◌≡◌, ◌<◌, ◌==◌, IfSome, length, position};
 ghost use Rattle.std.specs.Option.{option_map};
-ghost use Rattle.neli_tables.specs.Lines.{line_seen};
+ghost use Rattle.neli_tables.specs.Lines.{line_view};
 ghost use Rattle.neli_tables_walk.specs.FieldBytes.{before_zero, bytes_at, field_bytes_by, is_open};
 ghost use Rattle.neli_tables_walk.specs.FieldBytes.{keeps_part};
 
@@ -64,7 +64,7 @@ fn before_zero(kind: Option<Kind>, bytes: &[u8]) -> &[u8]
 /// The bytes of a field, if it has some in those of its structure.
 pub fn field_bytes<'b>(row: &Line<'_>, options: &Options, bytes: &'b [u8]) -> Option<&'b [u8]>
     ensures { option_map (λ part. part.now) result
-        ≡ field_bytes_by (line_seen row.now) options.now bytes.now }
+        ≡ field_bytes_by (line_view row.now) options.now bytes.now }
 {
     let span = row.span?;
     let (start, end) = (span.first as usize, span.last as usize);

@@ -2,10 +2,10 @@
 
 ghost use Rattle.std.specs.Prelude.{◌≡◌, ◌++◌, [], IfSome, List, Some, codes, ℕ};
 ghost use Rattle.std.specs.Fmt.{WritesOnOk};
-ghost use Rattle.neli_tables.specs.Columns.{column_of, column_seen};
-ghost use Rattle.neli_tables.specs.Lines.{line_seen};
+ghost use Rattle.neli_tables.specs.Columns.{column_of, column_view};
+ghost use Rattle.neli_tables.specs.Lines.{line_view};
 ghost use Rattle.neli_tables.specs.Options.{options_of};
-ghost use Rattle.neli_tables.specs.Plain.{name_seen, plain_name};
+ghost use Rattle.neli_tables.specs.Plain.{name_view, plain_name};
 ghost use Rattle.neli_tables_walk.specs.Cells.{value_json, value_text};
 ghost use Rattle.neli_tables_walk.specs.FieldLists.{Printed, PrintsNumber, field_text_by};
 ghost use Rattle.neli_tables_walk.specs.FieldLists.{fields_json_by, fields_text_by, members_by};
@@ -62,9 +62,9 @@ trait FieldPrinter {
         _column: &Column,
         _bytes: &[u8],
     ) -> Option<Number>
-        requires options { _options.now ≡ options_of (line_seen _row.now) }
-        requires column { column_of (line_seen _row.now) ≡ Some (column_seen _column.now) }
-        ensures { IfSome result (PrintsNumber printed before (line_seen _row.now) _bytes.now) }
+        requires options { _options.now ≡ options_of (line_view _row.now) }
+        requires column { column_of (line_view _row.now) ≡ Some (column_view _column.now) }
+        ensures { IfSome result (PrintsNumber printed before (line_view _row.now) _bytes.now) }
     {
         None
     }
@@ -166,11 +166,11 @@ impl FieldPrinter for PrintsFlatJson {
 /// The number of a column, if the bytes of a structure have it, and it is printed in decimal digits.
 #[inline(always)]
 fn number_at(_row: &Line<'_>, options: &Options, column: &Column, bytes: &[u8]) -> Option<Number>
-    requires options { options.now ≡ options_of (line_seen _row.now) }
-    requires column { column_of (line_seen _row.now) ≡ Some (column_seen column.now) }
+    requires options { options.now ≡ options_of (line_view _row.now) }
+    requires column { column_of (line_view _row.now) ≡ Some (column_view column.now) }
     ensures text { IfSome result
-        (PrintsNumber value_text (codes " ") (line_seen _row.now) bytes.now) }
-    ensures json { IfSome result (PrintsNumber value_json [] (line_seen _row.now) bytes.now) }
+        (PrintsNumber value_text (codes " ") (line_view _row.now) bytes.now) }
+    ensures json { IfSome result (PrintsNumber value_json [] (line_view _row.now) bytes.now) }
 {
     let part = bytes.get(column.start..column.end)?;
     digits_as(options, column.kind, part)
@@ -183,7 +183,7 @@ fn write_row_name<W: fmt::Write>(
     kept: Option<&str>,
     f: &mut fmt::Formatter<W>,
 ) -> fmt::Result
-    requires { name_seen kept ≡ plain_name (line_seen row.now) }
+    requires { name_view kept ≡ plain_name (line_view row.now) }
     ensures writes { WritesOnOk W.Write.write_str_gives f.old result
         (name_text row.now.name.now) f.new }
 {
@@ -200,7 +200,7 @@ fn write_name<W: fmt::Write>(
     kept: Option<&str>,
     f: &mut fmt::Formatter<W>,
 ) -> fmt::Result
-    requires { name_seen kept ≡ plain_name (line_seen row.now) }
+    requires { name_view kept ≡ plain_name (line_view row.now) }
     ensures writes { WritesOnOk W.Write.write_str_gives f.old result
         (codes " " ++ name_text row.now.name.now) f.new }
 {
@@ -216,7 +216,7 @@ fn write_key<W: fmt::Write>(
     kept: Option<&str>,
     f: &mut fmt::Formatter<W>,
 ) -> fmt::Result
-    requires { name_seen kept ≡ plain_name (line_seen row.now) }
+    requires { name_view kept ≡ plain_name (line_view row.now) }
     ensures writes { WritesOnOk W.Write.write_str_gives f.old result
         (before.now ++ (name_json row.now.name.now ++ codes ":")) f.new }
 {
@@ -246,7 +246,7 @@ fn write_field<V: FieldPrinter, W: fmt::Write>(
     requires blank { V.before ≡ codes " " }
     requires row { IsRow row }
     ensures writes { WritesOnOk W.Write.write_str_gives f.old result (field_text_by V.printed
-        table.now bytes.now (line_seen row.entry.line.now)) f.new }
+        table.now bytes.now (line_view row.entry.line.now)) f.new }
 {
     let Row {
         line,

@@ -6,9 +6,9 @@ ghost use Rattle.std.specs.Option.{option_map};
 ghost use Rattle.arrayvec.specs.ArrayVec.{array_vec_len};
 ghost use Rattle.neli_tables_walk.specs.declared.level.Level.{Level};
 ghost use Rattle.neli_tables_walk.specs.declared.shape.Shape.TheVariants.{Row};
-ghost use Rattle.neli_tables_walk.specs.Elements.{element_at, element_seen};
-ghost use Rattle.neli_tables_walk.specs.Shapes.{context_seen, listed_seen, onto};
-ghost use Rattle.neli_tables_walk.specs.Visited.{item_at, next_at, parts_of, visit_seen, visited};
+ghost use Rattle.neli_tables_walk.specs.Elements.{element_at, element_view};
+ghost use Rattle.neli_tables_walk.specs.Shapes.{context_view, listed_view, onto};
+ghost use Rattle.neli_tables_walk.specs.Visited.{item_at, next_at, parts_of, visit_view, visited};
 ghost use Rattle.neli_tables_walk.specs.Walks.{EntersGiven, closed, given_shape, inner_items, later_level};
 ghost use Rattle.neli_tables_walk.specs.Walks.{list_of, listed_bytes, nested_bytes};
 ghost use Rattle.neli_tables_walk.specs.Walks.{next_item, open_items, shape_in, sort_in, step_of};
@@ -31,11 +31,11 @@ impl<'b, 'w, 't> Levels<'b, 'w, 't> {
     /// The next item, with its path.
     pub fn take_item(&mut self) -> Option<Item<'b>>
         ensures context { self.new.context ≡ self.old.context }
-        ensures items { open_items (context_seen self.old.context) [] [] self.old.open.items
+        ensures items { open_items (context_view self.old.context) [] [] self.old.open.items
             ≡ next_item result
-            (open_items (context_seen self.old.context) [] [] self.new.open.items) }
+            (open_items (context_view self.old.context) [] [] self.new.open.items) }
         ensures end { IsNone result
-            → open_items (context_seen self.new.context) [] [] self.new.open.items ≡ [] }
+            → open_items (context_view self.new.context) [] [] self.new.open.items ≡ [] }
     {
         let visit = self.take_visit()?;
         let levels = self.open.as_slice();
@@ -51,15 +51,15 @@ impl<'b, 'w, 't> Levels<'b, 'w, 't> {
     #[inline(always)]
     pub fn take_visit(&mut self) -> Option<Visit<'b>>
         ensures context { self.new.context ≡ self.old.context }
-        ensures items { open_items (context_seen self.old.context) [] [] self.old.open.items
+        ensures items { open_items (context_view self.old.context) [] [] self.old.open.items
             ≡ next_at result self.new.open.items
-            (open_items (context_seen self.old.context) [] [] self.new.open.items) }
+            (open_items (context_view self.old.context) [] [] self.new.open.items) }
         ensures visit { IfSome result (λ v. visited (item_at v self.new.open.items)
-            ≡ visit_seen v) }
+            ≡ visit_view v) }
         ensures parts { IfSome result (λ v. parts_of v ≤ length self.new.open.items) }
         ensures few { IfSome result (λ v. v.lists ≤ MAX_DEPTH) }
         ensures end { IsNone result
-            → open_items (context_seen self.new.context) [] [] self.new.open.items ≡ [] }
+            → open_items (context_view self.new.context) [] [] self.new.open.items ≡ [] }
     {
         while let Some(level) = self.open.as_slice().last() {
             if !level.rest.is_empty() {
@@ -79,9 +79,9 @@ impl<'b, 'w, 't> Levels<'b, 'w, 't> {
             → last.rest.now ≢ [] }
         ensures context { self.new.context ≡ self.old.context }
         ensures items { item_at result self.new.open.items
-            ∷ open_items (context_seen self.old.context) [] [] self.new.open.items
-            ≡ open_items (context_seen self.old.context) [] [] self.old.open.items }
-        ensures visit { visited (item_at result self.new.open.items) ≡ visit_seen result }
+            ∷ open_items (context_view self.old.context) [] [] self.new.open.items
+            ≡ open_items (context_view self.old.context) [] [] self.old.open.items }
+        ensures visit { visited (item_at result self.new.open.items) ≡ visit_view result }
         ensures parts { parts_of result ≤ length self.new.open.items }
         ensures few { result.lists ≤ MAX_DEPTH }
     {
@@ -105,9 +105,9 @@ impl<'b, 'w, 't> Levels<'b, 'w, 't> {
             → element_at last.list.sort last.rest.now ≡ Err error }
         ensures context { self.new.context ≡ self.old.context }
         ensures items { item_at result self.new.open.items
-            ∷ open_items (context_seen self.old.context) [] [] self.new.open.items
-            ≡ open_items (context_seen self.old.context) [] [] self.old.open.items }
-        ensures visit { visited (item_at result self.new.open.items) ≡ visit_seen result }
+            ∷ open_items (context_view self.old.context) [] [] self.new.open.items
+            ≡ open_items (context_view self.old.context) [] [] self.old.open.items }
+        ensures visit { visited (item_at result self.new.open.items) ≡ visit_view result }
         ensures parts { parts_of result ≤ length self.new.open.items }
         ensures few { result.lists ≤ MAX_DEPTH }
     {
@@ -146,12 +146,12 @@ impl<'b, 'w, 't> Levels<'b, 'w, 't> {
         requires any { 0 < array_vec_len self.old.open }
         requires found { (around : List Level) (last : Level)
             → self.old.open.items ≡ around ++ last ∷ []
-            → element_at last.list.sort last.rest.now ≡ Ok (element_seen element, rest.now) }
+            → element_at last.list.sort last.rest.now ≡ Ok (element_view element, rest.now) }
         ensures context { self.new.context ≡ self.old.context }
         ensures items { item_at result self.new.open.items
-            ∷ open_items (context_seen self.old.context) [] [] self.new.open.items
-            ≡ open_items (context_seen self.old.context) [] [] self.old.open.items }
-        ensures visit { visited (item_at result self.new.open.items) ≡ visit_seen result }
+            ∷ open_items (context_view self.old.context) [] [] self.new.open.items
+            ≡ open_items (context_view self.old.context) [] [] self.old.open.items }
+        ensures visit { visited (item_at result self.new.open.items) ≡ visit_view result }
         ensures parts { parts_of result ≤ length self.new.open.items }
         ensures few { result.lists ≤ MAX_DEPTH }
     {
@@ -192,7 +192,7 @@ impl<'b, 'w, 't> Levels<'b, 'w, 't> {
     #[inline(always)]
     pub fn step_of(&self, list: &Listed<'b>, element: &Element<'b>) -> Step
         ensures { result
-            ≡ step_of (context_seen self.now.context) list.now.sort (element_seen element.now) }
+            ≡ step_of (context_view self.now.context) list.now.sort (element_view element.now) }
     {
         match &element.kind {
             Some(kind) => {
@@ -212,9 +212,9 @@ impl<'b, 'w, 't> Levels<'b, 'w, 't> {
     /// What an element of this list is: a hop is its structure and its attributes.
     pub fn shape_of(&self, list: &Listed<'b>, step: &Step, element: &Element<'b>) -> Shape
         requires { step.now
-            ≡ step_of (context_seen self.now.context) list.now.sort (element_seen element.now) }
-        ensures { result ≡ shape_in (context_seen self.now.context) (listed_seen list.now)
-            (onto self.now.open.items []) (element_seen element.now) }
+            ≡ step_of (context_view self.now.context) list.now.sort (element_view element.now) }
+        ensures { result ≡ shape_in (context_view self.now.context) (listed_view list.now)
+            (onto self.now.open.items []) (element_view element.now) }
     {
         self.context
             .listed_shape(list, self.open.as_slice(), step.row, element.payload)
@@ -229,7 +229,7 @@ impl<'b, 'w, 't> Levels<'b, 'w, 't> {
         ensures kept { take (length self.old.open.items) self.new.open.items
             ≡ self.old.open.items }
         ensures more { length self.old.open.items ≤ length self.new.open.items }
-        ensures entered { EntersGiven (context_seen self.old.context) self.old.open.items payload.now
+        ensures entered { EntersGiven (context_view self.old.context) self.old.open.items payload.now
             self.new.open.items result }
     {
         match self.plain_row() {
@@ -246,7 +246,7 @@ impl<'b, 'w, 't> Levels<'b, 'w, 't> {
         ensures { IfSome result (λ place. (around : List Level) (last : Level)
             → self.now.open.items ≡ around ++ last ∷ []
             → (payload : List ℕ)
-            → given_shape (context_seen self.now.context) around last payload ≡ Row place) }
+            → given_shape (context_view self.now.context) around last payload ≡ Row place) }
     {
         let last = self.open.len() - 1;
         let level = &self.open.as_slice()[last];
@@ -265,7 +265,7 @@ impl<'b, 'w, 't> Levels<'b, 'w, 't> {
         ensures kept { take (length self.old.open.items) self.new.open.items
             ≡ self.old.open.items }
         ensures more { length self.old.open.items ≤ length self.new.open.items }
-        ensures entered { EntersGiven (context_seen self.old.context) self.old.open.items payload.now
+        ensures entered { EntersGiven (context_view self.old.context) self.old.open.items payload.now
             self.new.open.items result }
     {
         let shape = self.given_shape(payload);
@@ -277,7 +277,7 @@ impl<'b, 'w, 't> Levels<'b, 'w, 't> {
         requires { 0 < array_vec_len self.now.open }
         ensures { (around : List Level) (last : Level)
             → self.now.open.items ≡ around ++ last ∷ []
-            → result ≡ given_shape (context_seen self.now.context) around last payload.now }
+            → result ≡ given_shape (context_view self.now.context) around last payload.now }
     {
         let levels = self.open.as_slice();
         let last = levels.len() - 1;
@@ -294,16 +294,16 @@ impl<'b, 'w, 't> Levels<'b, 'w, 't> {
         ensures more { length self.old.open.items ≤ length self.new.open.items }
         ensures full { array_vec_len self.old.open ≡ MAX_DEPTH
             → (result ≡ closed shape)
-            × (open_items (context_seen self.old.context) [] [] self.new.open.items
-            ≡ open_items (context_seen self.old.context) [] [] self.old.open.items) }
+            × (open_items (context_view self.old.context) [] [] self.new.open.items
+            ≡ open_items (context_view self.old.context) [] [] self.old.open.items) }
         ensures entered { array_vec_len self.old.open < MAX_DEPTH
             → (result ≡ shape)
-            × (open_items (context_seen self.old.context) [] [] self.new.open.items
+            × (open_items (context_view self.old.context) [] [] self.new.open.items
             ≡ inner_items
-            (walked (context_seen self.old.context) (9 - length self.old.open.items)
+            (walked (context_view self.old.context) (9 - length self.old.open.items)
             (map (λ l. l.inside) self.old.open.items) (onto self.old.open.items []))
             (list_of shape payload.now)
-            ++ open_items (context_seen self.old.context) [] [] self.old.open.items) }
+            ++ open_items (context_view self.old.context) [] [] self.old.open.items) }
     {
         let Some(sort) = sort_of(&shape) else {
             return shape;
@@ -336,7 +336,7 @@ pub fn sort_of(shape: &Shape) -> Option<Sort>
 
 /// A list of which all is left.
 pub fn level_of(sort: Sort, bytes: &[u8]) -> Level<'_>
-    ensures list { listed_seen result.list ≡ (sort, bytes.now) }
+    ensures list { listed_view result.list ≡ (sort, bytes.now) }
     ensures rest { result.rest.now ≡ bytes.now }
 {
     Level {

@@ -3,7 +3,7 @@
 ghost use Rattle.std.specs.Prelude.{◌≡◌};
 ghost use Rattle.std.specs.Option.{option_map};
 ghost use Rattle.neli_tables.specs.Families.{fixed_id};
-ghost use Rattle.neli_tables_walk.specs.Bodies.{body_in, body_seen, counted_line, first_table};
+ghost use Rattle.neli_tables_walk.specs.Bodies.{body_in, body_view, counted_line, first_table};
 ghost use Rattle.neli_tables_walk.specs.Bodies.{fixed_body};
 ghost use Rattle.neli_tables_walk.specs.Bodies.{generic_body, generic_table, is_meant, number_at};
 ghost use Rattle.neli_tables_walk.specs.Bodies.{typed_body, where_at};
@@ -27,7 +27,7 @@ pub fn body_of<'b, 'w, 't>(
     head: Head,
     payload: &'b [u8],
 ) -> Body<'b, 'w, 't>
-    ensures { body_seen result ≡ body_in tables.now head payload.now }
+    ensures { body_view result ≡ body_in tables.now head payload.now }
 {
     if head.protocol == GENERIC {
         generic_body(tables, head, payload)
@@ -49,7 +49,7 @@ fn generic_body<'b, 'w, 't>(
     head: Head,
     payload: &'b [u8],
 ) -> Body<'b, 'w, 't>
-    ensures { body_seen result ≡ generic_body tables.now head payload.now }
+    ensures { body_view result ≡ generic_body tables.now head payload.now }
 {
     if head.is_control() {
         return Body::unknown(payload);
@@ -86,7 +86,7 @@ pub(crate) fn where_at(table: &Table<'_>) -> Option<Span>
 
 /// The body of a message of another protocol.
 fn fixed_body<'b, 'w, 't>(tables: &'w Tables<'t>, head: Head, payload: &'b [u8]) -> Body<'b, 'w, 't>
-    ensures { body_seen result ≡ fixed_body tables.now head payload.now }
+    ensures { body_view result ≡ fixed_body tables.now head payload.now }
 {
     match first_table(tables, head.protocol) {
         Some(table) => match where_at(table) {
@@ -104,7 +104,7 @@ fn fixed_body<'b, 'w, 't>(tables: &'w Tables<'t>, head: Head, payload: &'b [u8])
 
 /// The body of a message whose type is its number.
 fn typed_body<'b, 'w, 't>(tables: &'w Tables<'t>, head: Head, payload: &'b [u8]) -> Body<'b, 'w, 't>
-    ensures { body_seen result ≡ typed_body tables.now head payload.now }
+    ensures { body_view result ≡ typed_body tables.now head payload.now }
 {
     if head.is_control() {
         return Body::unknown(payload);

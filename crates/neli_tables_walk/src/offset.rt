@@ -2,12 +2,12 @@
 
 ghost use Rattle.std.specs.Prelude.{◌≡◌, ◌<◌, ◌≤◌, [], MatchOption, Some};
 ghost use Rattle.std.specs.Option.{option_map};
-ghost use Rattle.neli_tables_walk.specs.Elements.{element_seen, elements_of};
+ghost use Rattle.neli_tables_walk.specs.Elements.{element_view, elements_of};
 ghost use Rattle.neli_tables_walk.specs.Found.{containing, element_size, front_of, list_start};
 ghost use Rattle.neli_tables_walk.specs.Found.{path_at};
-ghost use Rattle.neli_tables_walk.specs.Found.{path_from, place_from, place_seen, place_with};
+ghost use Rattle.neli_tables_walk.specs.Found.{path_from, place_from, place_view, place_with};
 ghost use Rattle.neli_tables_walk.specs.Found.{some_steps, step_at};
-ghost use Rattle.neli_tables_walk.specs.Shapes.{context_seen, listed_seen, onto};
+ghost use Rattle.neli_tables_walk.specs.Shapes.{context_view, listed_view, onto};
 ghost use Rattle.neli_tables_walk.specs.Walks.{list_of};
 
 use crate::element::{Element, take_element};
@@ -32,7 +32,7 @@ pub(crate) struct Place<'b> {
 /// body that is a structure and attributes. `None` where no attribute is there.
 pub fn find(context: Context<'_, '_>, nest: Nest, body: &[u8], offset: usize) -> Option<Path>
     ensures { option_map (λ path. path.steps.items) result
-        ≡ path_at (context_seen context.entry) nest body.now offset }
+        ≡ path_at (context_view context.entry) nest body.now offset }
 {
     let sort = Sort {
         nest,
@@ -45,7 +45,7 @@ pub fn find(context: Context<'_, '_>, nest: Nest, body: &[u8], offset: usize) ->
 /// The path to this place in a list that stands in no other.
 fn path_from(context: Context<'_, '_>, place: Place<'_>) -> Option<Path>
     ensures { option_map (λ path. path.steps.items) result
-        ≡ path_from (context_seen context.entry) (Some (place_seen place.entry)) }
+        ≡ path_from (context_view context.entry) (Some (place_view place.entry)) }
 {
     let mut levels = Levels {
         context,
@@ -84,9 +84,9 @@ fn some_path(steps: ArrayVec<Step, MAX_DEPTH>) -> Option<Path>
 
 /// The step to a place in these lists, and the same place in the list that it leads into.
 fn step_at<'b>(levels: &Levels<'b, '_, '_>, place: &Place<'b>) -> Option<(Step, Option<Place<'b>>)>
-    ensures { option_map (λ s. (s.0, option_map place_seen s.1)) result
-        ≡ step_at (context_seen levels.now.context) (onto levels.now.open.items [])
-        (place_seen place.now) }
+    ensures { option_map (λ s. (s.0, option_map place_view s.1)) result
+        ≡ step_at (context_view levels.now.context) (onto levels.now.open.items [])
+        (place_view place.now) }
 {
     let (element, offset) = element_at(&place.list, place.offset)?;
     let step = levels.step_of(&place.list, &element);
@@ -96,8 +96,8 @@ fn step_at<'b>(levels: &Levels<'b, '_, '_>, place: &Place<'b>) -> Option<(Step, 
 
 /// The same place in the list that an element is, if it is one.
 fn place_in<'b>(element: &Element<'b>, shape: Shape, offset: usize) -> Option<Place<'b>>
-    ensures { option_map place_seen result
-        ≡ place_with (element_seen element.now) offset (list_of shape element.now.payload.now) }
+    ensures { option_map place_view result
+        ≡ place_with (element_view element.now) offset (list_of shape element.now.payload.now) }
 {
     let sort = sort_of(&shape)?;
     let front = front_of(element);
@@ -110,7 +110,7 @@ fn place_in<'b>(element: &Element<'b>, shape: Shape, offset: usize) -> Option<Pl
 
 /// The same place from a list's first byte, where its payload has it at an offset.
 fn place_from(list: Listed<'_>, offset: usize) -> Option<Place<'_>>
-    ensures { option_map place_seen result ≡ place_from (listed_seen list.entry) offset }
+    ensures { option_map place_view result ≡ place_from (listed_view list.entry) offset }
 {
     let start = list_start(&list.sort)?;
     if offset < start {
@@ -138,7 +138,7 @@ fn list_start(sort: &Sort) -> Option<usize>
 
 /// The element that contains an offset, and the offset from its first byte.
 fn element_at<'b>(list: &Listed<'b>, offset: usize) -> Option<(Element<'b>, usize)>
-    ensures { option_map (λ r. (element_seen r.0, r.1)) result
+    ensures { option_map (λ r. (element_view r.0, r.1)) result
         ≡ containing offset (elements_of list.now.sort list.now.bytes.now).0 }
 {
     let mut rest = list.bytes;
@@ -156,7 +156,7 @@ fn element_at<'b>(list: &Listed<'b>, offset: usize) -> Option<(Element<'b>, usiz
 
 /// How many bytes stand before an element's payload.
 fn front_of(element: &Element<'_>) -> usize
-    ensures value { result ≡ front_of (element_seen element.now).0 }
+    ensures value { result ≡ front_of (element_view element.now).0 }
     ensures few { result ≤ 4 }
 {
     match element.kind {
@@ -167,7 +167,7 @@ fn front_of(element: &Element<'_>) -> usize
 
 /// How many bytes an element takes in its list.
 fn element_size(element: &Element<'_>) -> usize
-    ensures { result ≡ element_size (element_seen element.now) }
+    ensures { result ≡ element_size (element_view element.now) }
 {
     alignto(front_of(element) + element.payload.len())
 }

@@ -2,9 +2,9 @@
 
 ghost use Rattle.std.specs.Prelude.{◌≡◌, [], List, IsNone};
 ghost use Rattle.std.specs.Iterator.{YieldsFirstBy, item_count};
-ghost use Rattle.neli_tables_walk.specs.Shapes.{context_seen};
+ghost use Rattle.neli_tables_walk.specs.Shapes.{context_view};
 ghost use Rattle.neli_tables_walk.specs.Visited.{VisitsFirst};
-ghost use Rattle.neli_tables_walk.specs.Walks.{Seen, item_seen, next_item, open_items, walk_items};
+ghost use Rattle.neli_tables_walk.specs.Walks.{Seen, item_view, next_item, open_items, walk_items};
 
 use crate::level::Sort;
 use crate::levels::{Levels, level_of, nested_bytes};
@@ -25,13 +25,13 @@ pub struct Walk<'b, 'w, 't> {
 impl<'b, 'w, 't> Model for Walk<'b, 'w, 't> {
     ghost Value = { List Seen };
 
-    ghost view = { λ w. open_items (context_seen w.levels.context) [] [] w.levels.open.items };
+    ghost view = { λ w. open_items (context_view w.levels.context) [] [] w.levels.open.items };
 }
 
 impl<'b, 'w, 't> Walk<'b, 'w, 't> {
     /// What a body has: a structure, and after it the attributes of a set.
     pub fn new(context: Context<'w, 't>, nest: Nest, body: &'b [u8]) -> Self
-        ensures { result ≡ walk_items (context_seen context.entry) nest body.now }
+        ensures { result ≡ walk_items (context_view context.entry) nest body.now }
     {
         let sort = Sort {
             nest,
@@ -65,7 +65,7 @@ impl<'b, 'w, 't> Walk<'b, 'w, 't> {
 impl<'b, 'w, 't> Iterator for Walk<'b, 'w, 't> {
     type Item = Item<'b>;
 
-    ghost next_gives = { YieldsFirstBy item_seen (λ items. items) };
+    ghost next_gives = { YieldsFirstBy item_view (λ items. items) };
 
     ghost remaining = { item_count (λ (items : List Seen). items) };
 
@@ -85,7 +85,7 @@ pub struct Visits<'b, 'w, 't> {
 impl<'b, 'w, 't> Model for Visits<'b, 'w, 't> {
     ghost Value = { List Seen };
 
-    ghost view = { λ w. open_items (context_seen w.levels.context) [] [] w.levels.open.items };
+    ghost view = { λ w. open_items (context_view w.levels.context) [] [] w.levels.open.items };
 }
 
 impl<'b, 'w, 't> Visits<'b, 'w, 't> {

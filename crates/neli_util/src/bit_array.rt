@@ -65,7 +65,7 @@ impl NetlinkBitArray {
             ↔ AreTooMany (words_for bits) }
         ensures memory { ¬ AreTooMany (words_for bits) → IfErr result (λ e. e ≡ SerError.Memory) }
         ensures no_memory { 32 * words_for bits ≤ self.old.capacity → IsOk result }
-        ensures err { OnErr result (self.new ≡ self.old) }
+        ensures unchanged { OnErr result (self.new ≡ self.old) }
     {
         resize_words(&mut self.words, bits.div_ceil(WORD_BITS))
     }
@@ -81,7 +81,7 @@ impl NetlinkBitArray {
         ensures memory { ¬ AreTooMany (words_for (8 * bytes))
             → IfErr result (λ e. e ≡ SerError.Memory) }
         ensures no_memory { 32 * words_for (8 * bytes) ≤ self.old.capacity → IsOk result }
-        ensures err { OnErr result (self.new ≡ self.old) }
+        ensures unchanged { OnErr result (self.new ≡ self.old) }
     {
         resize_words(&mut self.words, bytes.div_ceil(WORD_BITS / 8))
     }
@@ -158,7 +158,7 @@ fn resize_words(words: &mut Vec<u32>, count: usize) -> Result<(), SerError>
         ↔ AreTooMany count }
     ensures memory { ¬ AreTooMany count → IfErr result (λ e. e ≡ SerError.Memory) }
     ensures no_memory { ¬ AreTooMany count → count ≤ length words.old.items → IsOk result }
-    ensures err { OnErr result (words.new.items ≡ words.old.items) }
+    ensures unchanged { OnErr result (words.new.items ≡ words.old.items) }
 {
     if count > MAX_WORDS {
         return Err(SerError::Msg(MsgError::from_static("bit array too long")));

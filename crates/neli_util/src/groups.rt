@@ -59,7 +59,7 @@ impl Groups {
         ensures ok { OnOk result (self.new ≡ with_added (groups_of mask) self.old) }
         ensures no_zero { HasNoZero self.new }
         ensures none_lacking { lacking (groups_of mask) self.old ≡ [] → IsOk result }
-        ensures err { OnErr result (self.new ≡ self.old) }
+        ensures unchanged { OnErr result (self.new ≡ self.old) }
     {
         add_masked(&mut self.numbers, mask)
     }
@@ -92,7 +92,7 @@ impl Groups {
         ensures ok { OnOk result (self.new ≡ with_added groups.now self.old) }
         ensures no_zero { HasNoZero self.new }
         ensures none_lacking { lacking groups.now self.old ≡ [] → IsOk result }
-        ensures err { OnErr result (self.new ≡ self.old) }
+        ensures unchanged { OnErr result (self.new ≡ self.old) }
     {
         add_lacking(&mut self.numbers, groups)
     }
@@ -162,7 +162,7 @@ fn copy_of(alloc: Global, numbers: &[u32]) -> Result<Vec<u32>, NoMemory>
 // Adds a number, if it is above 0 and missing. It takes memory only then.
 fn add_one(list: &mut Vec<u32>, number: u32) -> Result<(), NoMemory>
     ensures ok { OnOk result (list.new.items ≡ with_added (number ∷ []) list.old.items) }
-    ensures err { OnErr result (list.new.items ≡ list.old.items) }
+    ensures unchanged { OnErr result (list.new.items ≡ list.old.items) }
     ensures above { OnErr result (0 < number) }
     ensures lacking { OnErr result (has list.old.items number ≡ false) }
 {
@@ -176,7 +176,7 @@ fn add_one(list: &mut Vec<u32>, number: u32) -> Result<(), NoMemory>
 fn add_lacking(list: &mut Vec<u32>, added: &[u32]) -> Result<(), NoMemory>
     ensures ok { OnOk result (list.new.items ≡ with_added added.now list.old.items) }
     ensures none_lacking { lacking added.now list.old.items ≡ [] → IsOk result }
-    ensures err { OnErr result (list.new.items ≡ list.old.items) }
+    ensures unchanged { OnErr result (list.new.items ≡ list.old.items) }
 {
     let before = list.len();
     for number in added {
@@ -192,7 +192,7 @@ fn add_lacking(list: &mut Vec<u32>, added: &[u32]) -> Result<(), NoMemory>
 fn add_masked(list: &mut Vec<u32>, mask: u32) -> Result<(), NoMemory>
     ensures ok { OnOk result (list.new.items ≡ with_added (groups_of mask) list.old.items) }
     ensures none_lacking { lacking (groups_of mask) list.old.items ≡ [] → IsOk result }
-    ensures err { OnErr result (list.new.items ≡ list.old.items) }
+    ensures unchanged { OnErr result (list.new.items ≡ list.old.items) }
 {
     let before = list.len();
     for bit in 0..MASK_WIDTH {

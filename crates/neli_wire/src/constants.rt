@@ -35,7 +35,7 @@ pub trait WireNumber: Copy + Debug {
     /// Appends the bytes of the number. A refusal leaves the buffer as it was.
     fn append(self, buffer: &mut Vec<u8>) -> Result<(), AllocError>
         ensures ok { OnOk result (buffer.new.items ≡ buffer.old.items ++ bytes_of self) }
-        ensures err { OnErr result (buffer.new.items ≡ buffer.old.items) }
+        ensures unchanged { OnErr result (buffer.new.items ≡ buffer.old.items) }
         ensures memory { OnErr result (0 < byte_count) };
 
     /// The number of these bytes.

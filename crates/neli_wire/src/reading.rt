@@ -42,7 +42,7 @@ pub trait FromBytes: Sized + Debug + Drop {
     fn strip(cursor: &mut Cursor<'_>) -> Result<(), DeError>
         ensures stripped { OnOk result (StripsTo cursor.old cursor.new) }
         ensures short { IfErr result (LacksPadding cursor.old) }
-        ensures kept { OnErr result (cursor.new ≡ cursor.old) }
+        ensures unchanged { OnErr result (cursor.new ≡ cursor.old) }
     {
         strip_to_four(cursor)
     }
@@ -86,7 +86,7 @@ pub trait FromBytesWithInput: Sized + Debug + Drop {
     fn strip(cursor: &mut Cursor<'_>) -> Result<(), DeError>
         ensures stripped { OnOk result (StripsTo cursor.old cursor.new) }
         ensures short { IfErr result (LacksPadding cursor.old) }
-        ensures kept { OnErr result (cursor.new ≡ cursor.old) }
+        ensures unchanged { OnErr result (cursor.new ≡ cursor.old) }
     {
         strip_to_four(cursor)
     }
@@ -124,7 +124,7 @@ pub trait FromBytesWithInputBorrowed<'a>: Sized + Debug {
     fn strip(cursor: &mut Cursor<'a>) -> Result<(), DeError>
         ensures stripped { OnOk result (StripsTo cursor.old cursor.new) }
         ensures short { IfErr result (LacksPadding cursor.old) }
-        ensures kept { OnErr result (cursor.new ≡ cursor.old) };
+        ensures unchanged { OnErr result (cursor.new ≡ cursor.old) };
 
     // Bytes missing inside are never refused as `Io(UnexpectedEof)`.
     ghost never_short: { (s : List ℕ) → read s ≡ Err short → ⊥ };
@@ -159,7 +159,7 @@ pub trait Header {
 pub fn strip_to_four(cursor: &mut Cursor<'_>) -> Result<(), DeError>
     ensures stripped { OnOk result (StripsTo cursor.old cursor.new) }
     ensures short { IfErr result (LacksPadding cursor.old) }
-    ensures kept { OnErr result (cursor.new ≡ cursor.old) }
+    ensures unchanged { OnErr result (cursor.new ≡ cursor.old) }
 {
     let position = cursor.position();
     let gap = alignto(position) - position;

@@ -18,7 +18,7 @@ use std::alloc::{AllocError, Global};
 /// Appends the text and a zero, or leaves the buffer as it was.
 fn write_text(text: &str, buffer: &mut Vec<u8>) -> Result<(), AllocError>
     ensures ok { OnOk result (buffer.new.items ≡ buffer.old.items ++ (text.now ++ 0 ∷ [])) }
-    ensures err { OnErr result (buffer.new.items ≡ buffer.old.items) }
+    ensures unchanged { OnErr result (buffer.new.items ≡ buffer.old.items) }
 {
     let start = buffer.len();
     buffer.extend_from_slice(text.as_bytes())?;

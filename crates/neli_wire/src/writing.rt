@@ -28,7 +28,7 @@ pub trait ToBytes: Size + Debug {
             ≡ buffer.old.items ++ zeros_for (length buffer.old.items)) }
         ensures memory { IfErr result (λ e. (e ≡ ser.Memory)
             × (0 < gap (length buffer.old.items))) }
-        ensures kept { OnErr result (buffer.new.items ≡ buffer.old.items) }
+        ensures unchanged { OnErr result (buffer.new.items ≡ buffer.old.items) }
     {
         pad_from(buffer, 0)?;
         Ok(())
@@ -52,7 +52,7 @@ pub fn pad_from(buffer: &mut Vec<u8>, start: usize) -> Result<(), AllocError>
     requires { start ≤ length buffer.old.items }
     ensures ok { OnOk result (buffer.new.items
         ≡ buffer.old.items ++ zeros_for (length buffer.old.items - start)) }
-    ensures err { OnErr result (buffer.new.items ≡ buffer.old.items) }
+    ensures unchanged { OnErr result (buffer.new.items ≡ buffer.old.items) }
     ensures memory { OnErr result (0 < gap (length buffer.old.items - start)) }
 {
     let size = buffer.len() - start;
@@ -71,7 +71,7 @@ pub fn undo_on_refusal(
 ) -> Result<(), SerError>
     ensures outcome { result ≡ outcome }
     ensures ok { OnOk result (buffer.new.items ≡ buffer.old.items) }
-    ensures err { OnErr result (buffer.new.items ≡ take start buffer.old.items) }
+    ensures undone { OnErr result (buffer.new.items ≡ take start buffer.old.items) }
 {
     if outcome.is_err() {
         buffer.truncate(start);

@@ -4,7 +4,7 @@ use Rattle.neli_wire.specs.declared.errors.DeError.{DeError}
 use Rattle.neli_wire.specs.declared.errors.DeError.TheVariants.{InvalidInput}
 use Rattle.neli_reader.specs.Answers.{after}
 use Rattle.neli_lent.specs.Attributes.{attributes_at}
-use Rattle.neli_lent.specs.Messages.{Lent, message_said}
+use Rattle.neli_lent.specs.Messages.{Lent, message_view}
 use Rattle.neli_bench.specs.Walks.{IsSum, attributes_add, as_u64, lent_adds, type_and_length}
 use Rattle.neli_bench.proofs.lent.message_adds.Goals as goal
 
@@ -25,5 +25,5 @@ adds n m before rest (Some t) first later is =
     (attributes_at (λ k. k) (record { before = []; rest = s })).0)) here
 
 pub returns : goal.returns
-returns g c = adds _ (message_said c.args.message.now) _ _ _ c.in-Ok.ensures.value.0 c.in-Ok.ensures.value.1
+returns g c = adds _ (message_view c.args.message.now) _ _ _ c.in-Ok.ensures.value.0 c.in-Ok.ensures.value.1
     c.attributes_add.ensures

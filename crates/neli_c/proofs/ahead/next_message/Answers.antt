@@ -1,5 +1,5 @@
 use Rattle.std.proofs.Common.{◌≡◌, ℕ, ◌∷◌, IfSome, IsNone, Option, subst, sym}
-use Rattle.neli_lent.specs.Messages.{message_said}
+use Rattle.neli_lent.specs.Messages.{message_view}
 use Rattle.neli_lent.specs.declared.message.LentMessage.{LentMessage}
 use Rattle.neli_log.specs.Lending.{Lends}
 use Rattle.neli_c.specs.Ahead.{Message, messages_in}
@@ -13,7 +13,7 @@ returns-clause-some c =
     let r = c.lend_next.ensures in
     let come : Next c.lend_next.result (messages_in a) (messages_in b) =
     next a b c.lend_next.result r.lends r.rest in
-    subst (λ (o : Option (LentMessage ℕ)). IfSome o (λ m. (u : Message) × Lends (message_said m) u
+    subst (λ (o : Option (LentMessage ℕ)). IfSome o (λ m. (u : Message) × Lends (message_view m) u
     × (messages_in a ≡ u ∷ messages_in b))) (sym c.message_in.ensures)
     (message-next c.lend_next.result (messages_in a) (messages_in b) come)
 

@@ -3,7 +3,7 @@ use Rattle.std.specs.List.{list_all}
 use Rattle.std.specs.Str.{IsUtf8, is_utf8}
 use Rattle.std.proofs.lemmas.Bool.{cond_both}
 use Rattle.std.proofs.lemmas.Str.{IsUtf8-from_is_utf8, is_utf8-from_IsUtf8}
-use Rattle.neli_tables.specs.Lines.{LineSeen, line_seen}
+use Rattle.neli_tables.specs.Lines.{LineSeen, line_view}
 use Rattle.neli_tables.specs.Plain.{is_plain, plain_name}
 use Rattle.neli_tables.proofs.plain.plain_name.Goals as goal
 
@@ -18,8 +18,8 @@ lost line plain other =
 
 pub returns-in-Ok : goal.returns-in-Ok
 returns-in-Ok c =
-    kept (line_seen c.args.line.now) _ c.in-Ok.ensures.cases.0 (sym c.are_plain.ensures ∙ c.if-not-are_plain.false)
+    kept (line_view c.args.line.now) _ c.in-Ok.ensures.cases.0 (sym c.are_plain.ensures ∙ c.if-not-are_plain.false)
     (is_utf8-from_IsUtf8 _ c.in-Ok.ensures.cases.1)
 
 pub returns-in-Err : goal.returns-in-Err
-returns-in-Err c = lost (line_seen c.args.line.now) (sym c.are_plain.ensures ∙ c.if-not-are_plain.false) c.in-Err.ensures.cases.0
+returns-in-Err c = lost (line_view c.args.line.now) (sym c.are_plain.ensures ∙ c.if-not-are_plain.false) c.in-Err.ensures.cases.0

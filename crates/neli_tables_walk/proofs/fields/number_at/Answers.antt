@@ -1,6 +1,6 @@
 use Rattle.std.proofs.Common.{◌∙◌, ap, refl, sym}
-use Rattle.neli_tables.specs.Columns.{column_seen}
-use Rattle.neli_tables.specs.Lines.{line_seen}
+use Rattle.neli_tables.specs.Columns.{column_view}
+use Rattle.neli_tables.specs.Lines.{line_view}
 use Rattle.neli_tables_walk.specs.Cells.{value_json, value_text}
 use Rattle.neli_tables_walk.proofs.Columns.{column_says, field_there, if_some_from}
 use Rattle.neli_tables_walk.proofs.fields.number_at.Goals as goal
@@ -8,12 +8,12 @@ use Rattle.neli_tables_walk.proofs.fields.number_at.Goals as goal
 pub digits_as-requires-clause-kind : goal.digits_as-requires-clause-kind
 digits_as-requires-clause-kind c =
     ap (λ o. o.kind) c.requires.options
-    ∙ (column_says (line_seen c.args._row.now) (column_seen c.args.column.now) c.requires.column).kind
+    ∙ (column_says (line_view c.args._row.now) (column_view c.args.column.now) c.requires.column).kind
 
 pub returns-clause-text : goal.returns-clause-text
 returns-clause-text c =
-    let row = line_seen c.args._row.now in
-    let column = column_seen c.args.column.now in
+    let row = line_view c.args._row.now in
+    let column = column_view c.args.column.now in
     let part = c.in_ok-part.part.now in
     let there = c.in_ok-part.ensures.lookup.0 in
     if_some_from c.digits_as.result (λ n is. (
@@ -25,8 +25,8 @@ returns-clause-text c =
 
 pub returns-clause-json : goal.returns-clause-json
 returns-clause-json c =
-    let row = line_seen c.args._row.now in
-    let column = column_seen c.args.column.now in
+    let row = line_view c.args._row.now in
+    let column = column_view c.args.column.now in
     let part = c.in_ok-part.part.now in
     let there = c.in_ok-part.ensures.lookup.0 in
     if_some_from c.digits_as.result (λ n is. (

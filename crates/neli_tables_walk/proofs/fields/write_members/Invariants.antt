@@ -3,7 +3,7 @@ use Rattle.std.specs.Fmt.{HasWritten, IsPlainFormatter}
 use Rattle.std.specs.List.{flat_map}
 use denote.Text.{Utf8}
 use denote.Shadow.{shadow}
-use Rattle.neli_tables.specs.Lines.{line_seen}
+use Rattle.neli_tables.specs.Lines.{line_view}
 use Rattle.neli_tables_walk.specs.FieldLists.{member_by, members_by}
 use Rattle.neli_tables_walk.specs.Lists.{joined}
 use Rattle.neli_tables_walk.proofs.ValueLists.{after}
@@ -17,5 +17,5 @@ invariant-loop-index g l =
     (IsPlainFormatter l.initial.f
     → (done : List ℕ) × HasWritten g.W.Write.write_str_gives l.initial.f done l.f
     × (done ++ after (codes ",") l.comma
-    (flat_map (member_by by l.fields.table.now l.fields.bytes.now) (drop l.index (map line_seen l.rows)))
+    (flat_map (member_by by l.fields.table.now l.fields.bytes.now) (drop l.index (map line_view l.rows)))
     ≡ joined (codes ",") (members_by by l.fields.table.now l.fields.place l.fields.bytes.now)))

@@ -1,5 +1,5 @@
 use Rattle.std.proofs.Common.{◌≡◌, ◌≤◌, ◌<◌, ◌-◌, ℕ, sym, ap, ◌∙◌, arith}
-use Rattle.neli_tables_walk.specs.Elements.{element_seen, elements_of}
+use Rattle.neli_tables_walk.specs.Elements.{element_view, elements_of}
 use Rattle.neli_tables_walk.specs.Found.{containing, element_size}
 use Rattle.neli_tables_walk.proofs.Lists.{shorter}
 use Rattle.neli_tables_walk.proofs.Offsets.{containing-here, containing-later, containing-none}
@@ -7,7 +7,7 @@ use Rattle.neli_tables_walk.proofs.offset.element_at.Goals as goal
 
 pub returns-then-offset-size : goal.returns-then-offset-size
 returns-then-offset-size c =
-    let e = element_seen c.in-Ok.element in
+    let e = element_view c.in-Ok.element in
     let same : c.element_size-size.result ≡ element_size e = c.element_size-size.ensures in
     let within : c.loop-element.offset < element_size e = omega
     (arith, same, c.if-offset-size.true) in
@@ -17,13 +17,13 @@ returns-then-offset-size c =
 pub loop-element-smaller : goal.loop-element-smaller
 loop-element-smaller c =
     let fewer = shorter c.args.list.now.sort c.loop-element.rest.now c.in-Ok.later.now
-    (element_seen c.in-Ok.element) c.in-Ok.ensures.value in
+    (element_view c.in-Ok.element) c.in-Ok.ensures.value in
     omega (arith, fewer)
 
 pub loop-element-preserved : goal.loop-element-preserved
 loop-element-preserved c =
     let sort = c.args.list.now.sort in
-    let e = element_seen c.in-Ok.element in
+    let e = element_view c.in-Ok.element in
     let same : c.element_size-size.result ≡ element_size e = c.element_size-size.ensures in
     let past : element_size e ≤ c.loop-element.offset = omega
     (arith, same, c.if-offset-size.false) in

@@ -1,6 +1,6 @@
 use Rattle.std.proofs.Common.{◌≡◌, ◌-◌, length}
-use Rattle.neli_tables_walk.specs.Found.{place_seen}
-use Rattle.neli_tables_walk.specs.Shapes.{context_seen}
+use Rattle.neli_tables_walk.specs.Found.{place_view}
+use Rattle.neli_tables_walk.specs.Shapes.{context_view}
 use Rattle.neli_tables_walk.proofs.Offsets.{Follows}
 use Rattle.neli_tables_walk.proofs.offset.path_from.Given as goal
 
@@ -11,5 +11,5 @@ decreases-loop-levels l = 10 - length l.steps.items
 abbrev pub invariant-loop-levels : goal.invariant-loop-levels
 invariant-loop-levels l =
     (l.levels.context ≡ l.fn.context) × (length l.levels.open.items ≡ length l.steps.items)
-    × Follows (context_seen l.fn.context) (place_seen l.fn.place) l.steps.items l.levels.open.items
-    (place_seen l.place)
+    × Follows (context_view l.fn.context) (place_view l.fn.place) l.steps.items l.levels.open.items
+    (place_view l.place)

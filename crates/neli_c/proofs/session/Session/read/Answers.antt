@@ -31,7 +31,7 @@ returns-clause-some c =
         handles = c.take.new.handles;
         freed = s.freed;
         held = c.hold.new.held;
-      }) _ _ _ _ code c.hold.ensures.held r.port r.next_seq r.ended r.closed r.waits r.gives r.others r.err,
+      }) _ _ _ _ code c.hold.ensures.held r.port r.next_seq r.ended r.closed r.waits r.gives r.others r.unchanged,
     )
 
 pub returns-clause-heard : goal.returns-clause-heard
@@ -46,4 +46,4 @@ returns-clause-heard c =
       handles = c.take.new.handles;
       freed = s.freed;
       held = c.hold.new.held;
-    }) _ r.heard r.unheard r.given_up r.err)
+    }) _ r.heard r.unheard r.given_up r.unchanged)

@@ -87,8 +87,8 @@ returns-in-Err-clause-needed c = λ ne.
 pub returns-in-Err-clause-refused : goal.returns-in-Err-clause-refused
 returns-in-Err-clause-refused c = λ ne. (
   c.in-Err.ensures.port,
-  c.in-Err.ensures.err.0,
-  c.in-Err.ensures.err.1,
+  c.in-Err.ensures.unchanged.0,
+  c.in-Err.ensures.unchanged.1,
   refl,
   c.reserve.ensures.items,
   refl,

@@ -1,6 +1,6 @@
 use Rattle.std.proofs.Common.{◌≡◌, ◌∙◌, ℕ, List, sym, ap, subst}
 use Rattle.neli_wire.specs.Frames.{frame_at}
-use Rattle.neli_lent.specs.Messages.{lent_message, message_said}
+use Rattle.neli_lent.specs.Messages.{lent_message, message_view}
 use Rattle.neli_reader.specs.Headers.{Header}
 use Rattle.neli_lent.proofs.Spans.{same, span_body, span_header, span_lent, span_message}
 use Rattle.neli_lent.proofs.span.NlmsghdrFromSpan.from_span.Goals as goal
@@ -34,28 +34,28 @@ returns-in-Ok-to_nlmsghdr-clause-refused g c = λ u is.
 pub returns-then-has_plain_body-clause-value : goal.returns-then-has_plain_body-clause-value
 returns-then-has_plain_body-clause-value g c = λ u is.
     let lent = sym (ap (frame_at (lent_message same)) c.new-cursor.ensures.rest) ∙ c.in-Ok.ensures.value in
-    let said = span_body c.args.span.now _ (message_said c.in-Ok.message) lent
+    let said = span_body c.args.span.now _ (message_view c.in-Ok.message) lent
     (c.has_plain_body.ensures.body c.if-has_plain_body.true) u is in
     rw (said, ← c.nl_payload.ensures) c.with_body.ensures.value
 
 pub returns-then-has_plain_body-clause-header : goal.returns-then-has_plain_body-clause-header
 returns-then-has_plain_body-clause-header g c = λ u is.
     let lent = sym (ap (frame_at (lent_message same)) c.new-cursor.ensures.rest) ∙ c.in-Ok.ensures.value in
-    let said = span_body c.args.span.now _ (message_said c.in-Ok.message) lent
+    let said = span_body c.args.span.now _ (message_view c.in-Ok.message) lent
     (c.has_plain_body.ensures.body c.if-has_plain_body.true) u is in
     rw (said, ← c.header.ensures) c.with_body.ensures.header
 
 pub returns-then-has_plain_body-clause-refused : goal.returns-then-has_plain_body-clause-refused
 returns-then-has_plain_body-clause-refused g c = λ u is.
     let lent = sym (ap (frame_at (lent_message same)) c.new-cursor.ensures.rest) ∙ c.in-Ok.ensures.value in
-    let said = span_body c.args.span.now _ (message_said c.in-Ok.message) lent
+    let said = span_body c.args.span.now _ (message_view c.in-Ok.message) lent
     (c.has_plain_body.ensures.body c.if-has_plain_body.true) u is in
     rw (said, ← c.nl_payload.ensures) c.with_body.ensures.refused
 
 pub returns-then-has_plain_body-clause-memory : goal.returns-then-has_plain_body-clause-memory
 returns-then-has_plain_body-clause-memory g c = λ u bytes is not2 not3 body out.
     let lent = sym (ap (frame_at (lent_message same)) c.new-cursor.ensures.rest) ∙ c.in-Ok.ensures.value in
-    let said = span_body c.args.span.now _ (message_said c.in-Ok.message) lent
+    let said = span_body c.args.span.now _ (message_view c.in-Ok.message) lent
     (c.has_plain_body.ensures.body c.if-has_plain_body.true) u is in
     let stated = rw (said, ← c.nl_payload.ensures) at body in
     let held : c.nl_payload.result.now ≡ bytes = cc in

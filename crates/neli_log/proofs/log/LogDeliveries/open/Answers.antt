@@ -3,5 +3,5 @@ use Rattle.neli_log.proofs.log.LogDeliveries.open.Goals as goal
 pub returns-clause-opened : goal.returns-clause-opened
 returns-clause-opened c = rw (← c.self.view_is) c.open.ensures.opened
 
-pub returns-clause-err : goal.returns-clause-err
-returns-clause-err c = rw (← c.self.view_is) c.open.ensures.err
+pub returns-clause-unchanged : goal.returns-clause-unchanged
+returns-clause-unchanged c = rw (← c.self.view_is) c.open.ensures.unchanged

@@ -1,5 +1,5 @@
 use Rattle.std.proofs.Common.{rules, refl, ◌∙◌, List, [], ℕ, ap}
-use Rattle.neli_lent.specs.Messages.{message_said, messages_in}
+use Rattle.neli_lent.specs.Messages.{message_view, messages_in}
 use Rattle.neli_lent.specs.Walks.{items_of}
 use Rattle.neli_print.specs.Messages.{json_from}
 use Rattle.neli_print.proofs.Loops.{Message, message_json_printed, printed_all, printed_end}
@@ -19,7 +19,7 @@ pub loop-message-preserved : goal.loop-message-preserved
 loop-message-preserved g c =
     let me = c.args.self.now.0 in
     message_json_printed _ _ _ _ me.tables.now me.protocol c.loop-message.place _
-    (message_said c.in-Ok.lent) _ _ _ _ _ _ c.new.ensures.tables c.new.ensures.header
+    (message_view c.in-Ok.lent) _ _ _ _ _ _ c.new.ensures.tables c.new.ensures.header
     c.new.ensures.payload (rw c.in-Ok.is at c.in-Some.ensures.steps) c.place_behind-place.ensures
     (λ plain. c.in_ok-writeln-in-Ok.ensures.writes plain refl) c.loop-message.invariant
 

@@ -1,5 +1,5 @@
 use Rattle.std.proofs.Common.{rules, refl, ◌∙◌, List, [], ℕ, ap}
-use Rattle.neli_lent.specs.Messages.{message_said, messages_in}
+use Rattle.neli_lent.specs.Messages.{message_view, messages_in}
 use Rattle.neli_lent.specs.Walks.{items_of}
 use Rattle.neli_print.specs.Messages.{lines_from}
 use Rattle.neli_print.proofs.Loops.{Message, message_text_printed, printed_all, printed_end}
@@ -21,7 +21,7 @@ pub loop-message-preserved : goal.loop-message-preserved
 loop-message-preserved g c =
     let me = c.args.self.now in
     message_text_printed _ _ _ _ me.is_coloured me.datagram.tables.now me.datagram.protocol
-    c.loop-message.place _ (message_said c.in-Ok.lent) _ _ _ _ _ _ c.new.ensures.tables
+    c.loop-message.place _ (message_view c.in-Ok.lent) _ _ _ _ _ _ c.new.ensures.tables
     c.new.ensures.header c.new.ensures.payload (rw c.in-Ok.is at c.in-Some.ensures.steps)
     c.place_behind-place.ensures (λ plain. c.in_ok-write-in-Ok.ensures.writes plain refl)
     c.loop-message.invariant

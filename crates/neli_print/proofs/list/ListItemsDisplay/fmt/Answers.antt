@@ -1,7 +1,7 @@
 use Rattle.std.proofs.Common.{rules, refl, ◌∙◌, ◌++◌, codes, List, [], ℕ, ap, sym}
 use Rattle.neli_tables_walk.specs.Walks.{Seen}
 use Rattle.neli_print.specs.declared.item.Open.{Open}
-use Rattle.neli_print.specs.Items.{entry_seen}
+use Rattle.neli_print.specs.Items.{entry_view}
 use Rattle.neli_print.specs.ItemsJson.{items_json}
 use Rattle.neli_print.specs.Lists.{body_open}
 use Rattle.neli_print.specs.Pieces.{repeated}
@@ -21,7 +21,7 @@ pub loop-visit-preserved : goal.loop-visit-preserved
 loop-visit-preserved g c =
     let first = c.in-Some.ensures.steps in
     visit_json_printed _ _ _ _ c.args.self.now.0.context.table.now c.loop-visit.open _
-    (entry_seen c.of_visit-entry.result) first.0 _ _ _
+    (entry_view c.of_visit-entry.result) first.0 _ _ _
     (first.2 ∙ sym c.of_visit-entry.ensures.seen) first.1 c.after_entry-open.ensures
     (λ plain. c.in_ok-fmt.ensures.writes plain refl) c.loop-visit.invariant
 
@@ -29,7 +29,7 @@ pub loop-visit-preserved-in_ok-fmt : goal.loop-visit-preserved-in_ok-fmt
 loop-visit-preserved-in_ok-fmt g c =
     let first = c.in-Some.ensures.steps in
     visit_json_printed _ _ _ _ c.args.self.now.0.context.table.now c.loop-visit.open _
-    (entry_seen c.of_visit-entry.result) first.0 _ _ _
+    (entry_view c.of_visit-entry.result) first.0 _ _ _
     (first.2 ∙ sym c.of_visit-entry.ensures.seen) first.1 c.after_entry-open.ensures
     (λ plain. c.in_ok-fmt.ensures.writes plain refl) c.loop-visit.invariant
 
@@ -37,7 +37,7 @@ pub loop-visit-preserved-in_ok-fmt-2 : goal.loop-visit-preserved-in_ok-fmt-2
 loop-visit-preserved-in_ok-fmt-2 g c =
     let first = c.in-Some.ensures.steps in
     visit_json_printed _ _ _ _ c.args.self.now.0.context.table.now c.loop-visit.open _
-    (entry_seen c.of_visit-entry.result) first.0 _ _ _
+    (entry_view c.of_visit-entry.result) first.0 _ _ _
     (first.2 ∙ sym c.of_visit-entry.ensures.seen) first.1 c.after_entry-open.ensures
     (λ plain. c.in_ok-fmt.ensures.writes plain refl) c.loop-visit.invariant
 
@@ -45,7 +45,7 @@ pub loop-visit-preserved-in_ok-fmt-3 : goal.loop-visit-preserved-in_ok-fmt-3
 loop-visit-preserved-in_ok-fmt-3 g c =
     let first = c.in-Some.ensures.steps in
     visit_json_printed _ _ _ _ c.args.self.now.0.context.table.now c.loop-visit.open _
-    (entry_seen c.of_visit-entry.result) first.0 _ _ _
+    (entry_view c.of_visit-entry.result) first.0 _ _ _
     (first.2 ∙ sym c.of_visit-entry.ensures.seen) first.1 c.after_entry-open.ensures
     (λ plain. c.in_ok-fmt.ensures.writes plain refl) c.loop-visit.invariant
 

@@ -1,4 +1,4 @@
-use Rattle.neli_tables_walk.specs.Shapes.{context_seen}
+use Rattle.neli_tables_walk.specs.Shapes.{context_view}
 use Rattle.neli_print.specs.ItemsJson.{items_json}
 use Rattle.neli_print.specs.Lists.{list_items_json}
 use Rattle.neli_print.proofs.Loops.{IsPrinted}
@@ -10,4 +10,4 @@ invariant-loop-visit g l =
     let me = l.fn.self.0 in
     IsPrinted g.W.Write.write_str_gives l.initial.f l.f
     (items_json me.context.table.now l.open l.visit-iterator)
-    (list_items_json (context_seen me.context) me.nest me.bytes.now)
+    (list_items_json (context_view me.context) me.nest me.bytes.now)

@@ -1,6 +1,6 @@
 use Rattle.std.proofs.Common.{rules, refl, ◌∙◌, List, [], ℕ, ap, sym}
 use Rattle.neli_tables_walk.specs.Walks.{Seen}
-use Rattle.neli_print.specs.Items.{entry_seen}
+use Rattle.neli_print.specs.Items.{entry_view}
 use Rattle.neli_print.specs.ItemsText.{items_text}
 use Rattle.neli_print.proofs.Loops.{printed_end, visit_text_printed}
 use Rattle.neli_print.proofs.list.ListTextDisplay.fmt.Goals as goal
@@ -21,7 +21,7 @@ loop-visit-preserved g c =
     let me = c.args.self.now in
     let first = c.in-Some.ensures.steps in
     visit_text_printed _ _ _ _ me.is_coloured me.list.context.table.now me.level
-    (entry_seen c.of_visit.result) first.0 _ _ _ (first.2 ∙ sym c.of_visit.ensures.seen) first.1
+    (entry_view c.of_visit.result) first.0 _ _ _ (first.2 ∙ sym c.of_visit.ensures.seen) first.1
     (λ plain. c.in_ok-fmt.ensures.writes plain refl) c.loop-visit.invariant
 
 pub loop-visit-preserved-in_ok-fmt : goal.loop-visit-preserved-in_ok-fmt
@@ -29,7 +29,7 @@ loop-visit-preserved-in_ok-fmt g c =
     let me = c.args.self.now in
     let first = c.in-Some.ensures.steps in
     visit_text_printed _ _ _ _ me.is_coloured me.list.context.table.now me.level
-    (entry_seen c.of_visit.result) first.0 _ _ _ (first.2 ∙ sym c.of_visit.ensures.seen) first.1
+    (entry_view c.of_visit.result) first.0 _ _ _ (first.2 ∙ sym c.of_visit.ensures.seen) first.1
     (λ plain. c.in_ok-fmt.ensures.writes plain refl) c.loop-visit.invariant
 
 pub loop-visit-preserved-in_ok-fmt-2 : goal.loop-visit-preserved-in_ok-fmt-2
@@ -37,7 +37,7 @@ loop-visit-preserved-in_ok-fmt-2 g c =
     let me = c.args.self.now in
     let first = c.in-Some.ensures.steps in
     visit_text_printed _ _ _ _ me.is_coloured me.list.context.table.now me.level
-    (entry_seen c.of_visit.result) first.0 _ _ _ (first.2 ∙ sym c.of_visit.ensures.seen) first.1
+    (entry_view c.of_visit.result) first.0 _ _ _ (first.2 ∙ sym c.of_visit.ensures.seen) first.1
     (λ plain. c.in_ok-fmt.ensures.writes plain refl) c.loop-visit.invariant
 
 pub loop-visit-preserved-in_ok-fmt-3 : goal.loop-visit-preserved-in_ok-fmt-3
@@ -45,7 +45,7 @@ loop-visit-preserved-in_ok-fmt-3 g c =
     let me = c.args.self.now in
     let first = c.in-Some.ensures.steps in
     visit_text_printed _ _ _ _ me.is_coloured me.list.context.table.now me.level
-    (entry_seen c.of_visit.result) first.0 _ _ _ (first.2 ∙ sym c.of_visit.ensures.seen) first.1
+    (entry_view c.of_visit.result) first.0 _ _ _ (first.2 ∙ sym c.of_visit.ensures.seen) first.1
     (λ plain. c.in_ok-fmt.ensures.writes plain refl) c.loop-visit.invariant
 
 pub returns-clause-writes : goal.returns-clause-writes

@@ -1,4 +1,4 @@
-use Rattle.neli_tables_walk.specs.Shapes.{context_seen}
+use Rattle.neli_tables_walk.specs.Shapes.{context_view}
 use Rattle.neli_print.specs.ItemsText.{items_text}
 use Rattle.neli_print.specs.Lists.{list_text}
 use Rattle.neli_print.proofs.Loops.{IsPrinted}
@@ -11,4 +11,4 @@ invariant-loop-visit g l =
     let list = me.list in
     IsPrinted g.W.Write.write_str_gives l.initial.f l.f
     (items_text me.is_coloured list.context.table.now me.level l.visit-iterator)
-    (list_text me.is_coloured me.level (context_seen list.context) list.nest list.bytes.now)
+    (list_text me.is_coloured me.level (context_view list.context) list.nest list.bytes.now)

@@ -28,5 +28,5 @@ returns-in_default g c = record {
       c.send.new.self.next_seq c.args.nl_type c.args.nl_flags c.args.nl_payload
       (g.D.Deliveries.pending c.args.self.now.router.deliveries)
       (g.D.Deliveries.pending c.send.new.self.deliveries) c.args.self.now.handles.items _ c.in-Err.error
-      c.in_default.not-Memory c.in-Err.ensures.refused c.in-Err.ensures.err.0 c.in-Err.ensures.err.1);
+      c.in_default.not-Memory c.in-Err.ensures.refused c.in-Err.ensures.unchanged.0 c.in-Err.ensures.unchanged.1);
 }

@@ -4,7 +4,7 @@ use Rattle.std.proofs.Output.{has_written_append, has_written_of_eq}
 use Rattle.std.specs.Prelude.{if◌then◌else◌}
 use Rattle.std.specs.Fmt.{digits}
 use Rattle.std.proofs.lemmas.Bool.{ne_eqb}
-use Rattle.neli_tables.specs.Lines.{LineSeen, line_seen}
+use Rattle.neli_tables.specs.Lines.{LineSeen, line_view}
 use Rattle.neli_tables.specs.Bits.{is_set, unnamed_bits}
 use Rattle.neli_tables_walk.specs.Flags.{in_quotes, name_if_set, unnamed_text}
 use Rattle.neli_tables_walk.specs.Names.{name_text}
@@ -34,9 +34,9 @@ loop-row-preserved g c =
     let row = c.row-item.result in
     let q = c.args.self.now.quote.now in
     let between = c.args.self.now.between.now in
-    let last = unnamed_text (unnamed_bits bits bits (map line_seen rows)) in
+    let last = unnamed_text (unnamed_bits bits bits (map line_view rows)) in
     let h = λ (ts : List (List ℕ)). in_quotes q (ts ++ last) in
-    let text = name_text (line_seen row).name in
+    let text = name_text (line_view row).name in
     elim c.if-is_set.branch [
       | then-is_set+in_ok-write w ↦ rw (w.f-is, w.before-is) (
         search rules,
@@ -44,10 +44,10 @@ loop-row-preserved g c =
             let i = c.loop-row.invariant.1 plain in (
               i.0 ++ (c.loop-row.before.now ++ (q ++ (text ++ q))),
               has_written_append _ _ _ _ _ _ i.1 (search rules),
-              rows-after-step (name_if_set bits) h line_seen rows c.loop-row.row-index row
+              rows-after-step (name_if_set bits) h line_view rows c.loop-row.row-index row
                   c.loop-row-test.true c.row-item.is between c.loop-row.before.now i.0 _ text
                   (q ++ (text ++ q))
-                  (named bits (line_seen row) (sym c.is_set.ensures
+                  (named bits (line_view row) (sym c.is_set.ensures
                   ∙ w.if-is_set.true)) (λ ts. refl) i.2,
             ),
       )
@@ -57,9 +57,9 @@ loop-row-preserved g c =
             let i = c.loop-row.invariant.1 plain in (
               i.0,
               i.1,
-              rows-after-skip (name_if_set bits) h line_seen rows c.loop-row.row-index row
+              rows-after-skip (name_if_set bits) h line_view rows c.loop-row.row-index row
                   c.loop-row-test.true c.row-item.is between c.loop-row.before.now i.0 _
-                  (unnamed bits (line_seen row) (sym c.is_set.ensures ∙ w.if-is_set.false)) i.2,
+                  (unnamed bits (line_view row) (sym c.is_set.ensures ∙ w.if-is_set.false)) i.2,
             ),
       )
     ]
@@ -71,12 +71,12 @@ returns-clause-writes g c = λ plain ok.
     let rows = c.rows-rows.result.now in
     let q = c.args.self.now.quote.now in
     let n = c.unnamed_bits-left.result in
-    let last = unnamed_text (unnamed_bits bits bits (map line_seen rows)) in
+    let last = unnamed_text (unnamed_bits bits bits (map line_view rows)) in
     let h = λ (ts : List (List ℕ)). in_quotes q (ts ++ last) in
     let written = q ++ ((codes "0x" ++ digits 16 false n) ++ q) in
     has_written_of_eq _ _ _ _ _
     (rows-after-last
-    (name_if_set bits) h line_seen rows c.loop-row.row-index c.args.self.now.between.now
+    (name_if_set bits) h line_view rows c.loop-row.row-index c.args.self.now.between.now
     c.loop-row.before.now i.0 _ written (omega arith)
     (ap (in_quotes q) (number n _ c.unnamed_bits-left.ensures (λ e. omega arith))) i.2)
     (has_written_append _ _ _ _ (c.loop-row.before.now ++ written) _ i.1 (search rules))

@@ -1,8 +1,8 @@
 use Rattle.std.proofs.Common.{◌≡◌, ◌-◌, ◌<◌, length, sym, ap, ◌∙◌, arith}
 use Rattle.neli_tables_walk.specs.declared.item.Step.{Step}
 use Rattle.neli_tables_walk.specs.declared.level.Level.{Level}
-use Rattle.neli_tables_walk.specs.Elements.{element_seen}
-use Rattle.neli_tables_walk.specs.Shapes.{context_seen, listed_seen}
+use Rattle.neli_tables_walk.specs.Elements.{element_view}
+use Rattle.neli_tables_walk.specs.Shapes.{context_view, listed_view}
 use Rattle.neli_tables_walk.specs.Walks.{given_shape, later_level, listed_shape, step_of}
 use Rattle.neli_tables_walk.proofs.Ends.{last-at, last-exists, last-length}
 use Rattle.neli_tables_walk.proofs.Visited.{path-after, visited-element}
@@ -12,8 +12,8 @@ use Rattle.neli_tables_walk.proofs.levels.Levels.give_element.Goals as goal
 pub returns-clause-items : goal.returns-clause-items
 returns-clause-items c =
     let before = c.args.self.now in
-    let context = context_seen before.context in
-    let element = element_seen c.args.element in
+    let context = context_view before.context in
+    let element = element_view c.args.element in
     let ends = last-exists before.open.items c.requires.any in
     let around = ends.0 in
     let last = ends.1 in
@@ -39,7 +39,7 @@ returns-clause-items c =
     (path-after around c.note.new.self.open.items c.enter_given-shape.new.self.open.items later
     c.len-lists.result noted c.enter_given-shape.ensures.kept (omega (arith, whole, pushed, lists_are)))
     step_is
-    (ap (λ (s : Step). listed_shape context (listed_seen last.list) (lists around) s.row
+    (ap (λ (s : Step). listed_shape context (listed_view last.list) (lists around) s.row
     c.args.element.payload.now) step_is)
     noted entered.0 entered.1
     ∙ ap (items context) (sym ends.2)

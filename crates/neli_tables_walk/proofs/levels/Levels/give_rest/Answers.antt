@@ -1,9 +1,9 @@
 use Rattle.std.proofs.Common.{◌≡◌, ◌+◌, ◌-◌, ℕ, List, [], ◌∷◌, length, sym, ap, ◌∙◌, arith}
 use Rattle.std.proofs.Common.{length-append}
 use Rattle.neli_wire.specs.declared.errors.DeError.{DeError}
-use Rattle.neli_tables_walk.specs.Shapes.{context_seen}
+use Rattle.neli_tables_walk.specs.Shapes.{context_view}
 use Rattle.neli_tables_walk.specs.Visited.{path_in}
-use Rattle.neli_tables_walk.specs.Walks.{left_seen}
+use Rattle.neli_tables_walk.specs.Walks.{left_view}
 use Rattle.neli_tables_walk.proofs.Ends.{last-exists}
 use Rattle.neli_tables_walk.proofs.Visited.{path-before, visited-left}
 use Rattle.neli_tables_walk.proofs.Walks.{given-fault, items}
@@ -12,7 +12,7 @@ use Rattle.neli_tables_walk.proofs.levels.Levels.give_rest.Goals as goal
 pub returns-clause-items : goal.returns-clause-items
 returns-clause-items c =
     let before = c.args.self.now in
-    let context = context_seen before.context in
+    let context = context_view before.context in
     let ends = last-exists before.open.items c.requires.any in
     let around = ends.0 in
     let last = ends.1 in
@@ -24,8 +24,8 @@ returns-clause-items c =
     let parts : c.len.result - 1 ≡ length around = omega (arith, whole, lists) in
     let path = path_in new (c.len.result - 1) in
     let path_is = path-before around new ended.1 (c.len.result - 1) ended.2 parts in
-    ap (λ (b : List ℕ). left_seen path b c.take_rest.result.error ∷ items context new) ended.0
-    ∙ ap (λ (e : DeError). left_seen path last.rest.now e ∷ items context new)
+    ap (λ (b : List ℕ). left_view path b c.take_rest.result.error ∷ items context new) ended.0
+    ∙ ap (λ (e : DeError). left_view path last.rest.now e ∷ items context new)
     c.take_rest.ensures.error
     ∙ given-fault context around new last ended.1 c.args.error path path_is ended.2 ended.3
     (c.requires.some around last ends.2) (c.requires.fault around last ends.2)
