@@ -8,9 +8,9 @@
 //! - [`GenlAttrHandle`], [`RtAttrHandle`]: lists with look-ups of attributes.
 //! - [`laws`]: laws of lists, of built attributes, and of nested ones.
 //!
-//! `specs/` states what is read and written: `Attributes`, `TypeField`, `Builders`, `Nlattr`, `Rtattr` and
-//! `RoundTrips`, and for lists and handles `Handles`, `Lookup` and `Payloads`. Lists and handles are those of
-//! `neli_list`; [`Buffer`], [`AttrType`], [`Attribute`] and [`BuildError`] those of `neli_attr_parts`.
+//! `specs/` states what is read and written, in `Nlattr`, `Rtattr` and `RoundTrips`. Lists and handles are those of
+//! `neli_list`, whose pages are `Handles`, `Lookup` and `Payloads`; [`Buffer`], [`AttrType`], [`Attribute`] and
+//! [`BuildError`] those of `neli_attr_parts`: `Attributes`, `Buffers`, `Builders` and `TypeField`.
 #![tactic(auto)]
 
 pub mod laws;

@@ -92,7 +92,7 @@ impl<T: Drop> Places<T> {
     /// Gives a number that has no place one after the last entry.
     ///
     /// Refused only if memory runs out; then nothing changes. It is not refused if the table of numbers has room for one
-    /// more: then memory is asked for hints alone, which need not be right.
+    /// more: then it takes memory for hints alone, which need not be right.
     pub fn open(&mut self, number: u32) -> Result<(), AllocError>
         requires closed { pending_of self.old (Some number) ≡ None }
         requires trimmed { IsTrimmed self.old }

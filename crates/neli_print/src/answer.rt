@@ -25,12 +25,12 @@ pub(crate) struct Parts<'b> {
     pub body: Option<&'b [u8]>,
     /// Its attributes, where it has a list of them.
     pub attributes: Option<&'b [u8]>,
-    /// Bytes of which nothing is known.
+    /// Bytes of unknown meaning.
     pub rest: &'b [u8],
 }
 
 impl<'b> Parts<'b> {
-    /// Bytes of which nothing is known.
+    /// Bytes of unknown meaning.
     fn bare(rest: &'b [u8]) -> Parts<'b>
         ensures { parts_view result ≡ bare rest.now }
     {

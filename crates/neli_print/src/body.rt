@@ -70,7 +70,7 @@ impl fmt::Display for Reserved {
     }
 }
 
-/// The member of bytes of which nothing is known, after others; nothing where there are none.
+/// The member of bytes of unknown meaning, after others; nothing where there are none.
 #[derive(Clone, Copy)]
 pub(crate) struct BytesMember<'b>(pub &'b [u8]);
 
@@ -245,7 +245,7 @@ impl fmt::Display for StructureLine<'_, '_, '_> {
     }
 }
 
-/// A line with bytes of which nothing is known; nothing where there are none.
+/// A line with bytes of unknown meaning; nothing where there are none.
 #[derive(Clone, Copy)]
 pub(crate) struct BytesLine<'b> {
     pub level: usize,

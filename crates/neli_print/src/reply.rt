@@ -271,7 +271,7 @@ impl fmt::Display for AttributesLines<'_, '_, '_> {
     }
 }
 
-/// A line with the bytes behind a code of which nothing is known; nothing where there are none.
+/// A line with the bytes of unknown meaning behind a code; nothing where there are none.
 #[derive(Clone, Copy)]
 struct RestLine<'b>(&'b [u8]);
 

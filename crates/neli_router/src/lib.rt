@@ -3,10 +3,10 @@
 //!
 //! - [`NlRouter`]: sends, takes in datagrams and faults of the link, returns a handle's next item.
 //! - [`NlRouterReceiverHandle`]: the handle of a request, by its sequence number, or that of multicast, without one.
-//! - [`Reply`]: what a read answers: an item, the end, or a wait.
+//! - [`Reply`]: what a read returns: an item, the end, or a wait.
 //! - [`Verdict`]: how an answer stands: whether what was given is all of it; [`verdict_of`] returns it of items in a list.
 //! - [`NlRouter::lend_next`] and [`NlRouter::pass`]: the same read of a router over a log, without a copy; [`LentReply`] is
-//!   what it answers. [`NlRouter::lend_items`] lends all that wait, one after the other ([`ItemsAhead`]).
+//!   what it returns. [`NlRouter::lend_items`] lends all that wait, one after the other ([`ItemsAhead`]).
 //! - [`laws`]: `==` of what is known of handles is equality, and a lent read is an owned one.
 //!
 //! `specs/Rule.antt` defines where a handle's answers end and what each read returns; `specs/Sends.antt` the bytes of a

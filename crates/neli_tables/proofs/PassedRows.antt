@@ -157,7 +157,7 @@ row_less (line ∷ lines) n is =
         among_length lines ∙ omega (arith, all)
     by false it = let none = rw it at (sym (among_length (line ∷ lines)) ∙ is) in absurd (omega (arith, none))
 
-pub size_less : (lines : List LineSeen) (place n : ℕ) → get_or (sizes_of lines) place 0 ≡ suc n
+size_less : (lines : List LineSeen) (place n : ℕ) → get_or (sizes_of lines) place 0 ≡ suc n
     → get_or (sizes_of lines) (suc place) 0 ≡ n
 size_less [] place n is = cc
 size_less (line ∷ lines) zero n is = row_less lines n is

@@ -25,7 +25,7 @@ pub struct Body<'b, 'w, 't> {
 }
 
 impl<'b, 'w, 't> Body<'b, 'w, 't> {
-    /// Bytes of which nothing is known.
+    /// Bytes of unknown meaning.
     pub(crate) fn unknown(bytes: &'b [u8]) -> Body<'b, 'w, 't>
         ensures { body_view result ≡ unknown bytes.now }
     {

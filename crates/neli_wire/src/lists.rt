@@ -56,12 +56,12 @@ pub fn write_all<T: ToBytes>(items: &[T], buffer: &mut Vec<u8>) -> Result<(), Se
     undo_on_refusal(buffer, start, outcome)
 }
 
-/// The most values whose room is asked for at once. A list of more attributes takes a kilobyte or more, for which the
+/// The most values whose room is requested at once. A list of more attributes takes a kilobyte or more, for which the
 /// heap of glibc first puts all of its small free pieces together: it grows as it is read, which is faster.
 const ROOM: usize = 31;
 
-/// Reads all of the bytes as values, one after the other. Where the bytes are few frames, room for all of them is asked
-/// for at once.
+/// Reads all of the bytes as values, one after the other. Where the bytes are few frames, room for all of them is
+/// requested at once.
 ///
 /// An element that takes no byte while bytes are left is `InvalidInput` of the whole number of
 /// bytes.
