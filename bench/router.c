@@ -20,7 +20,7 @@
 #define ROUNDS 3
 #endif
 
-enum { OPEN = 100000, MESSAGES = 1000000, STRAYS = 100000 };
+enum { OPEN = 100000, MESSAGES = 1000000, STRAYS = 1000000 };
 
 /* How many messages are lent at once. */
 enum { ITEMS = 32 };
@@ -306,21 +306,17 @@ static double compare_by(runner *run, const char *tool, struct script kept) {
     return all.seconds * each;
 }
 
-/* A line of the table; what is read is also lent, and set beside a header. Returns whether the target is met. */
-static bool compare(const char *tool, double header, struct script kept, unsigned first, unsigned second) {
-    double lent = 0;
-    printf("%8u %8u ", first, second);
+/* A line of the table, after its first numbers; what is read is also lent, and set beside a header. Returns whether the
+ * target is met. */
+static bool compare(const char *tool, double header, struct script kept) {
     compare_by(run, tool, kept);
     printf("  ");
     double read = compare_by(run_calls, tool, kept);
-    if (kept.over) {
-        printf("  ");
-        lent = compare_by(run_lent, tool, kept);
-        printf("  ");
-        double at_once = compare_by(run_lent_at_once, tool, kept);
-        printf(" %5.0f %5.0f %5.0f", read / header, lent / header, at_once / header);
-    }
-    printf("\n");
+    printf("  ");
+    double lent = compare_by(run_lent, tool, kept);
+    printf("  ");
+    double at_once = compare_by(run_lent_at_once, tool, kept);
+    printf(" %5.0f %5.0f %5.0f\n", read / header, lent / header, at_once / header);
     fflush(stdout);
     return lent <= MOST_OF_A_MESSAGE * header;
 }
@@ -346,32 +342,48 @@ static bool compare_handles(double header) {
     return is_met;
 }
 
-int main(int argc, char **argv) {
-    static const unsigned handles[] = {1, 1000, 100000};
+/* The table of messages; returns whether the target is met. */
+static bool compare_messages(const char *tool, double header) {
+    static const struct { unsigned open, used; } handles[] = {{1, 1}, {1000, 1000}, {OPEN, 1}, {OPEN, 1000}, {OPEN, OPEN}};
     bool is_met = true;
+    printf("%d messages of 16 bytes, a datagram each\n\n", MESSAGES);
+    printf(" waiting     open  of them      neli_tool: ns a message      MB      through C: ns a message      MB"
+           "           lent: ns a message      MB   lent, %2d at once: ns a message      MB  times a header\n", ITEMS);
+    puts(" at most  handles     used      all dropped  differ     all        all dropped  differ     all"
+         "        all dropped  differ     all        all dropped  differ     all   read  lent at once");
+    for (unsigned batch = 1000; batch <= MESSAGES; batch *= 1000)
+        for (unsigned i = 0; i < sizeof handles / sizeof handles[0]; i++) {
+            struct script script = {handles[i].open, MESSAGES, handles[i].used, batch, false};
+            printf("%8u %8u %8u ", batch, handles[i].open, handles[i].used);
+            is_met = compare(tool, header, script) && is_met;
+        }
+    return is_met;
+}
+
+/* The table of strays, each of which goes to all open handles. */
+static void compare_strays(const char *tool, double header) {
+    printf("\n%d strays, of which none is read\n\n", STRAYS);
+    puts("                      neli_tool: ns a stray        MB      through C: ns a stray        MB  times");
+    puts("  strays     open      all dropped  differ     all        all dropped  differ     all  a header");
+    for (unsigned open = 1; open <= OPEN; open = open == 1 ? 1000 : open * 100) {
+        struct script script = {open, STRAYS, 0, STRAYS, false};
+        printf("%8u %8u ", STRAYS, open);
+        compare_by(run, tool, script);
+        printf("  ");
+        printf(" %5.0f\n", compare_by(run_calls, tool, script) / header);
+        fflush(stdout);
+    }
+}
+
+int main(int argc, char **argv) {
     if (argc != 3) {
         fputs("usage: router NELI_TOOL DUMP\n", stderr);
         return 1;
     }
     double header = header_time(argv[2]);
     printf("libmnl's walk over a header: %.1f ns\n", header);
-    printf("%d messages of 16 bytes, a datagram each, with %d open handles\n\n", MESSAGES, OPEN);
-    printf(" waiting  handles     neli_tool: ns a message      MB      through C: ns a message      MB"
-           "           lent: ns a message      MB   lent, %2d at once: ns a message      MB  times a header\n", ITEMS);
-    puts(" at most they are      all dropped  differ     all        all dropped  differ     all"
-         "        all dropped  differ     all        all dropped  differ     all   read  lent at once");
-    for (unsigned batch = 1000; batch <= MESSAGES; batch *= 1000)
-        for (int i = 0; i < 3; i++) {
-            struct script script = {OPEN, MESSAGES, handles[i], batch, false};
-            is_met = compare(argv[1], header, script, batch, handles[i]) && is_met;
-        }
-    printf("\n%d strays, of which none is read\n\n", STRAYS);
-    puts("                      neli_tool: ns a stray        MB      through C: ns a stray        MB");
-    puts("  strays     open      all dropped  differ     all        all dropped  differ     all");
-    for (int i = 0; i < 3; i++) {
-        struct script script = {handles[i], STRAYS, 0, STRAYS, false};
-        compare(argv[1], header, script, STRAYS, handles[i]);
-    }
+    bool is_met = compare_messages(argv[1], header);
+    compare_strays(argv[1], header);
     is_met = compare_handles(header) && is_met;
     return is_met ? 0 : 2;
 }
