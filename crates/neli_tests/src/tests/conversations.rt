@@ -1,7 +1,6 @@
 //! Conversations with a kernel, Linux 6.18 on x86-64, as recorded: a program's request, and each datagram that arrived
 //! for it. libmnl and pyroute2 read the contents of the messages.
 
-use super::pages::generic;
 use super::support::assert_is;
 use super::talk::{Item, Talk, answered, payload_of};
 use neli::consts::genl::{CtrlAttr, CtrlCmd, Index};
@@ -12,6 +11,7 @@ use neli::genl::{Genlmsghdr, GenlmsghdrBuilder};
 use neli::nl::NlPayload;
 use neli::router::synchronous::{lookup_id, resolve_genl_family, resolve_nl_mcast_group};
 use neli::rtnl::{Ifaddrmsg, IfaddrmsgBuilder};
+use neli::short::Put;
 use neli::types::{Buffer, GenlBuffer};
 use std::alloc::Global;
 use std::process::Abort;
@@ -21,9 +21,10 @@ type Ctrl = Genlmsghdr<CtrlCmd, CtrlAttr>;
 
 /// A request for the family of this name.
 fn family(rt: &impl Abort, alloc: Global, name: &str) -> Ctrl {
-    let name = generic(alloc, CtrlAttr::FamilyName, name).expect(rt, "a name");
-    let mut attrs = GenlBuffer::new(alloc);
-    attrs.push(name).expect(rt, "memory");
+    let mut attrs: GenlBuffer<CtrlAttr, Buffer> = GenlBuffer::new(alloc);
+    attrs
+        .put(alloc, CtrlAttr::FamilyName, name)
+        .expect(rt, "a name");
     GenlmsghdrBuilder::default()
         .cmd(CtrlCmd::Getfamily)
         .version(1)

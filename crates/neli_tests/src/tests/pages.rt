@@ -1,36 +1,25 @@
 //! The examples of the pages of docs on attributes, the router and groups, line by line.
 
 use super::support::{assert_is, assert_spelled, assert_written, bytes_of};
-use neli::consts::genl::{CtrlAttr, CtrlAttrMcastGrp, Index, NlAttrType};
+use neli::consts::genl::{CtrlAttr, CtrlAttrMcastGrp, Index};
 use neli::consts::nl::GenlId;
 use neli::consts::rtnl::Ifla;
-use neli::genl::{AttrType, Nlattr, NlattrBuilder, NlattrBuilderError};
+use neli::genl::Nlattr;
 use neli::lent::LentRtattrs;
 use neli::nl::Nlmsghdr;
 use neli::rtnl::Ifinfomsg;
+use neli::short::Made;
 use neli::types::Buffer;
 use neli::utils::Groups;
-use neli::{Cursor, FromBytesWithInput, ToBytes};
+use neli::{Cursor, FromBytesWithInput};
 use std::alloc::Global;
 use std::test::Fail;
 
-/// A generic attribute without flags.
-pub fn generic<T: NlAttrType, P: ToBytes + Drop>(
-    alloc: Global,
-    kind: T,
-    payload: P,
-) -> Result<Nlattr<T, Buffer>, NlattrBuilderError> {
-    NlattrBuilder::default()
-        .nla_type(AttrType::from(kind.to_number()))
-        .nla_payload(payload)
-        .build(alloc)
-}
-
 /// A group of a family, made from the inside out.
 fn group_of_a_family(alloc: Global) -> Result<Nlattr<Index, Buffer>, Fail> {
-    let group = generic(alloc, Index::from(1), ())?
-        .nest(&generic(alloc, CtrlAttrMcastGrp::Name, "notify")?)?
-        .nest(&generic(alloc, CtrlAttrMcastGrp::Id, 5u32)?)?;
+    let group = Nlattr::of(alloc, Index::from(1), ())?
+        .nest(&Nlattr::of(alloc, CtrlAttrMcastGrp::Name, "notify")?)?
+        .nest(&Nlattr::of(alloc, CtrlAttrMcastGrp::Id, 5u32)?)?;
     Ok(group)
 }
 
@@ -39,7 +28,7 @@ fn groups_of_a_family(
     alloc: Global,
     group: Nlattr<Index, Buffer>,
 ) -> Result<Nlattr<CtrlAttr, Buffer>, Fail> {
-    let groups = generic(alloc, CtrlAttr::McastGroups, ())?.nest(&group)?;
+    let groups = Nlattr::of(alloc, CtrlAttr::McastGroups, ())?.nest(&group)?;
     Ok(groups)
 }
 

@@ -1,11 +1,12 @@
-//! The example of the README, and the first ones of docs/ATTRIBUTES.md and docs/LENT.md, line by line.
+//! The example of the README, the first two of docs/ATTRIBUTES.md and the first one of docs/LENT.md, line by line.
 
-use super::support::{assert_is, assert_spelled, bytes_of};
+use super::support::{assert_is, assert_spelled, assert_written, bytes_of};
 use neli::consts::nl::NlmF;
-use neli::consts::rtnl::{Ifa, RtAddrFamily, RtScope, Rtm};
+use neli::consts::rtnl::{Ifa, RtAddrFamily, RtScope, Rta, Rtm};
 use neli::router::synchronous::{Log, NlRouter};
 use neli::rtnl::IfaddrmsgBuilder;
 use neli::short::{Client, Lookup, Next};
+use neli::types::{Buffer, RtBuffer};
 use std::alloc::Global;
 use std::net::Ipv4Addr;
 use std::test::Fail;
@@ -53,18 +54,14 @@ fn addresses_of_a_link(rt: HostRuntime) -> Result<(), Fail> {
 }
 
 /// A gateway of a route: its bytes, and the address that they are read as.
-fn gateway(alloc: Global) -> Result<(Vec<u8>, [u8; 4]), Fail> {
+fn gateway(alloc: Global) -> Result<(Vec<u8>, Option<[u8; 4]>), Fail> {
     use neli::consts::rtnl::Rta;
-    use neli::rtnl::RtattrBuilder;
+    use neli::short::{Lookup, Put};
     use neli::types::{Buffer, RtBuffer};
     use neli::{Cursor, FromBytesWithInput, ToBytes};
 
-    let gateway = RtattrBuilder::default()
-        .rta_type(Rta::Gateway)
-        .rta_payload([192u8, 0, 2, 1])
-        .build(alloc)?;
-    let mut attrs = RtBuffer::new(alloc);
-    attrs.push(gateway)?;
+    let mut attrs: RtBuffer<Rta, Buffer> = RtBuffer::new(alloc);
+    attrs.put(alloc, Rta::Gateway, [192u8, 0, 2, 1])?;
 
     let mut bytes = Vec::new(alloc);
     attrs.to_bytes(&mut bytes)?; // 08 00 05 00 c0 00 02 01
@@ -75,9 +72,7 @@ fn gateway(alloc: Global) -> Result<(Vec<u8>, [u8; 4]), Fail> {
         &mut cursor,
         bytes.len(),
     )?;
-    let address: [u8; 4] = read
-        .get_attr_handle()
-        .get_attr_payload_as(alloc, Rta::Gateway)?;
+    let address: Option<[u8; 4]> = read.get(alloc, Rta::Gateway)?;
     Ok((bytes, address))
 }
 
@@ -85,6 +80,32 @@ fn gateway(alloc: Global) -> Result<(Vec<u8>, [u8; 4]), Fail> {
 fn gateway_of_a_route(rt: HostRuntime) -> Result<(), Fail> {
     let (bytes, address) = gateway(rt.alloc())?;
     assert_spelled(&rt, rt.alloc(), &bytes, "08000500c0000201");
+    assert_is(&rt, address, Some([192, 0, 2, 1]));
+    Ok(())
+}
+
+/// The same gateway by the Rust crate's own calls: its list, and the address in it.
+fn gateway_by_its_builder(alloc: Global) -> Result<(RtBuffer<Rta, Buffer>, [u8; 4]), Fail> {
+    use neli::consts::rtnl::Rta;
+    use neli::rtnl::RtattrBuilder;
+    use neli::types::RtBuffer;
+
+    let gateway = RtattrBuilder::default()
+        .rta_type(Rta::Gateway)
+        .rta_payload([192u8, 0, 2, 1])
+        .build(alloc)?;
+    let mut attrs = RtBuffer::new(alloc);
+    attrs.push(gateway)?;
+    let address: [u8; 4] = attrs
+        .get_attr_handle()
+        .get_attr_payload_as(alloc, Rta::Gateway)?;
+    Ok((attrs, address))
+}
+
+#[test]
+fn gateway_that_is_built(rt: HostRuntime) -> Result<(), Fail> {
+    let (attrs, address) = gateway_by_its_builder(rt.alloc())?;
+    assert_written(&rt, rt.alloc(), &attrs, "08000500c0000201");
     assert_is(&rt, address, [192, 0, 2, 1]);
     Ok(())
 }
@@ -95,13 +116,13 @@ fn names_of<'a>(alloc: Global, datagram: &'a [u8]) -> Result<Vec<&'a str>, Fail>
     use neli::consts::rtnl::Ifla;
     use neli::lent::LentMessages;
     use neli::rtnl::Ifinfomsg;
+    use neli::short::LentLookup;
 
     let mut names = Vec::new(alloc);
     for message in LentMessages::<u16>::new(datagram) {
         let attrs = message?.get_attrs::<Ifinfomsg, Ifla>()?;
-        if let Some(attr) = attrs.get_attribute(Ifla::Ifname)? {
-            let name: &str = attr.get_payload_as_with_len_borrowed()?;
-            names.push(name.strip_suffix('\0').unwrap_or(name))?;
+        if let Some(name) = attrs.get_str(Ifla::Ifname)? {
+            names.push(name)?;
         }
     }
     Ok(names)
