@@ -4,45 +4,32 @@
 //! type bridge mcast_snooping 1 stp_state 1 priority 5`.
 
 use super::support::assert_spelled;
-use neli::ToBytes;
 use neli::consts::linux::IflaBr;
 use neli::consts::nl::NlmF;
-use neli::consts::rtnl::{Ifla, IflaInfo, RtAddrFamily, RtaType, Rtm};
-use neli::nl::NlPayload;
+use neli::consts::rtnl::{Ifla, IflaInfo, RtAddrFamily, Rtm};
 use neli::router::synchronous::{Log, NlRouter};
-use neli::rtnl::{Ifinfomsg, IfinfomsgBuilder, Rtattr, RtattrBuilder, RtattrBuilderError};
+use neli::rtnl::{Ifinfomsg, IfinfomsgBuilder, Rtattr};
+use neli::short::{Client, Made, Put};
 use neli::types::{Buffer, RtBuffer};
 use std::alloc::Global;
 use std::test::Fail;
 
-/// An attribute with this payload.
-fn attribute<T: RtaType, P: ToBytes + Drop>(
-    alloc: Global,
-    kind: T,
-    payload: P,
-) -> Result<Rtattr<T, Buffer>, RtattrBuilderError> {
-    RtattrBuilder::default()
-        .rta_type(kind)
-        .rta_payload(payload)
-        .build(alloc)
-}
-
 /// The link's kind: a bridge with these settings, made from the inside out.
 fn bridge(alloc: Global) -> Result<Rtattr<Ifla, Buffer>, Fail> {
-    let settings = attribute(alloc, IflaInfo::Data, ())?
-        .nest(&attribute(alloc, IflaBr::McastSnooping, 1u8)?)?
-        .nest(&attribute(alloc, IflaBr::StpState, 1u32)?)?
-        .nest(&attribute(alloc, IflaBr::Priority, 5u16)?)?;
-    let info = attribute(alloc, Ifla::Linkinfo, ())?
-        .nest(&attribute(alloc, IflaInfo::Kind, *b"bridge")?)?
+    let settings = Rtattr::of(alloc, IflaInfo::Data, ())?
+        .nest(&Rtattr::of(alloc, IflaBr::McastSnooping, 1u8)?)?
+        .nest(&Rtattr::of(alloc, IflaBr::StpState, 1u32)?)?
+        .nest(&Rtattr::of(alloc, IflaBr::Priority, 5u16)?)?;
+    let info = Rtattr::of(alloc, Ifla::Linkinfo, ())?
+        .nest(&Rtattr::of(alloc, IflaInfo::Kind, *b"bridge")?)?
         .nest(&settings)?;
     Ok(info)
 }
 
 /// The link to create.
 fn link(alloc: Global, name: &str) -> Result<Ifinfomsg, Fail> {
-    let mut attrs = RtBuffer::new(alloc);
-    attrs.push(attribute(alloc, Ifla::Ifname, name)?)?;
+    let mut attrs: RtBuffer<Ifla, Buffer> = RtBuffer::new(alloc);
+    attrs.put(alloc, Ifla::Ifname, name)?;
     attrs.push(bridge(alloc)?)?;
     let link = IfinfomsgBuilder::default()
         .ifi_family(RtAddrFamily::Unspecified)
@@ -53,10 +40,9 @@ fn link(alloc: Global, name: &str) -> Result<Ifinfomsg, Fail> {
 
 /// The request.
 fn request(alloc: Global, router: &mut NlRouter) -> Result<Vec<u8>, Fail> {
-    let body = NlPayload::Payload(link(alloc, "br0")?);
     let flags = NlmF::CREATE | NlmF::EXCL | NlmF::ACK;
-    let (request, _handle) = router.send::<_, _, Rtm, Ifinfomsg>(alloc, Rtm::Newlink, flags, body)?;
-    Ok(request)
+    let request = router.request(alloc, Rtm::Newlink, flags, link(alloc, "br0")?)?;
+    Ok(request.bytes)
 }
 
 #[test]

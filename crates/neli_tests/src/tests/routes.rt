@@ -5,12 +5,10 @@
 
 use super::support::assert_is;
 use super::talk::{Talk, answered, payload_of};
-use neli::FromBytes;
-use neli::attr::Attribute;
 use neli::consts::nl::NlmF;
 use neli::consts::rtnl::{RtAddrFamily, RtScope, RtTable, Rta, Rtm, Rtn, Rtprot};
-use neli::err::DeError;
-use neli::rtnl::{RtAttrHandle, Rtmsg, RtmsgBuilder};
+use neli::rtnl::{Rtmsg, RtmsgBuilder};
+use neli::short::Lookup;
 use std::alloc::Global;
 use std::net::Ipv4Addr;
 use std::test::Fail;
@@ -44,32 +42,20 @@ fn all_routes(alloc: Global) -> Result<Rtmsg, Fail> {
     Ok(all)
 }
 
-/// The value of an attribute, if the route has it.
-fn value_in<R: FromBytes>(
-    alloc: Global,
-    attrs: &RtAttrHandle<'_, Rta>,
-    kind: Rta,
-) -> Result<Option<R>, DeError> {
-    match attrs.get_attribute(kind) {
-        Some(attr) => Ok(Some(attr.get_payload_as(alloc)?)),
-        None => Ok(None),
-    }
-}
-
 /// The line of a route: its kind, its destination, its gateway, its link and its source address.
-fn line_of(alloc: Global, route: &Rtmsg) -> Result<String, DeError> {
-    let attrs = route.rtattrs().get_attr_handle();
-    let mut line = match value_in::<Ipv4Addr>(alloc, &attrs, Rta::Dst)? {
+fn line_of(alloc: Global, route: &Rtmsg) -> Result<String, Fail> {
+    let attrs = route.rtattrs();
+    let mut line = match attrs.get::<Ipv4Addr>(alloc, Rta::Dst)? {
         Some(to) => format!(in alloc; "{:?} {to}/{}", route.rtm_type(), route.rtm_dst_len())?,
         None => format!(in alloc; "{:?} default", route.rtm_type())?,
     };
-    if let Some(gateway) = value_in::<Ipv4Addr>(alloc, &attrs, Rta::Gateway)? {
+    if let Some(gateway) = attrs.get::<Ipv4Addr>(alloc, Rta::Gateway)? {
         line = format!(in alloc; "{line} via {gateway}")?;
     }
-    if let Some(link) = value_in::<u32>(alloc, &attrs, Rta::Oif)? {
+    if let Some(link) = attrs.get::<u32>(alloc, Rta::Oif)? {
         line = format!(in alloc; "{line} link {link}")?;
     }
-    if let Some(address) = value_in::<Ipv4Addr>(alloc, &attrs, Rta::Prefsrc)? {
+    if let Some(address) = attrs.get::<Ipv4Addr>(alloc, Rta::Prefsrc)? {
         line = format!(in alloc; "{line} from {address}")?;
     }
     Ok(line)

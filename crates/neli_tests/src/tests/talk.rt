@@ -4,8 +4,8 @@ use super::support::{assert_is, bytes_of};
 use neli::consts::nl::{NlType, NlmF};
 use neli::err::RouterError;
 use neli::nl::{NlPayload, Nlmsghdr};
-use neli::router::synchronous::{Log, NlRouter, NlRouterReceiverHandle, Reply};
-use neli::utils::Groups;
+use neli::router::synchronous::{Log, NlRouter, NlRouterReceiverHandle, Verdict};
+use neli::short::Client;
 use neli::{FromBytesWithInput, Size, ToBytes};
 use std::alloc::Global;
 use std::process::Abort;
@@ -38,16 +38,9 @@ fn items_of<T: NlType, P: FromBytesWithInput + Size + Drop>(
     router: &mut NlRouter,
     mut handle: NlRouterReceiverHandle<T, P>,
 ) -> Vec<Item<T, P>> {
-    let mut items = Vec::new(alloc);
-    for _ in 0..9u32 {
-        let reply = router.next_typed::<T, P, _, _>(alloc, &mut handle);
-        match reply.expect(rt, "memory") {
-            Reply::Item(item) => items.push(item).expect(rt, "memory"),
-            Reply::End => return items,
-            Reply::Waits => return rt.panic("no end"),
-        }
-    }
-    rt.panic("no end of nine items")
+    let dump = router.read_dump(alloc, &mut handle).expect(rt, "memory");
+    assert!(rt; dump.verdict != Verdict::Pending, "no end");
+    dump.items
 }
 
 /// Sends a request, hands in its answers, and returns all items of its handle, up to the end.
@@ -67,11 +60,10 @@ pub fn answered<T: NlType, S: ToBytes + Drop, P: FromBytesWithInput + Size + Dro
         Err(_) => return rt.panic("not sent"),
     };
     assert_asked(rt, alloc, &request, talk.request);
-    let no_groups = Groups::empty(alloc);
     for digits in talk.answers {
         let datagram = bytes_of(rt, alloc, digits);
         router
-            .processing_loop(&datagram, &no_groups)
+            .receive_for(alloc, &datagram, &[])
             .expect(rt, "memory");
     }
     items_of(rt, alloc, &mut router, handle)

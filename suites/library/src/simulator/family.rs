@@ -2,16 +2,14 @@
 //!
 //! The family has the number 27, one command, 1, that gets counters, and one attribute, 1, with a counter's value.
 
-use super::support::{NOTHING, ext_ack, push, request};
+use super::support::request;
 use neli::consts::nl::NlmF;
 use neli::genl::{Genlmsghdr, GenlmsghdrBuilder};
-use neli::nl::NlPayload;
-use neli::router::synchronous::{Log, NlRouter, NlRouterReceiverHandle, Reply};
-use neli::simulator::Request;
+use neli::router::synchronous::{Log, NlRouter, NlRouterReceiverHandle};
+use neli::short::{Client, Lookup, Put};
+use neli::simulator::{ExtAck, Request};
 use neli::types::GenlBuffer;
-use neli::utils::Groups;
 use std::alloc::Global;
-use std::process::Abort;
 use std::test::Fail;
 
 /// The family's number.
@@ -27,39 +25,38 @@ const COUNTERS: [u32; 3] = [5, 7, 11];
 type Counter = Genlmsghdr<u8, u16>;
 
 /// The command that gets counters, with this value if there is one.
-fn counter(rt: &impl Abort, alloc: Global, value: Option<u32>) -> Result<Counter, Fail> {
+fn counter(alloc: Global, value: Option<u32>) -> Result<Counter, Fail> {
     let mut attrs = GenlBuffer::new(alloc);
     if let Some(value) = value {
-        push(rt, alloc, &mut attrs, 1u16, value);
+        attrs.put(alloc, 1u16, value)?;
     }
     let body = GenlmsghdrBuilder::default().cmd(1).version(1).attrs(attrs);
     Ok(body.build(alloc)?)
 }
 
 /// The simulator's answer to a request for all counters.
-fn dumped(rt: &impl Abort, alloc: Global, request: &Request<'_>) -> Result<Vec<Vec<u8>>, Fail> {
+fn dumped(alloc: Global, request: &Request<'_>) -> Result<Vec<Vec<u8>>, Fail> {
     // Two counters of 28 bytes each fit a datagram.
     let mut dump = request.dump(alloc, 64);
     for value in COUNTERS {
-        let body = counter(rt, alloc, Some(value))?;
+        let body = counter(alloc, Some(value))?;
         dump.push(alloc, FAMILY, NlmF::empty(), body)?;
     }
-    let end = ext_ack(rt, alloc, NOTHING);
-    Ok(dump.finish(alloc, NlmF::empty(), 0, end)?)
+    Ok(dump.finish(alloc, NlmF::empty(), 0, ExtAck::new(alloc))?)
 }
 
 /// Its answer to one request: all counters, the first one, or that another family does not exist.
-fn served(rt: &impl Abort, alloc: Global, request: &Request<'_>) -> Result<Vec<Vec<u8>>, Fail> {
-    let nothing = ext_ack(rt, alloc, NOTHING);
+fn served(alloc: Global, request: &Request<'_>) -> Result<Vec<Vec<u8>>, Fail> {
+    let nothing = ExtAck::new(alloc);
     let mut datagrams = Vec::new(alloc);
     if *request.header().nl_type() != FAMILY {
         datagrams.push(request.error(alloc, -2, nothing)?)?;
         return Ok(datagrams);
     }
     if request.wants_dump() {
-        return dumped(rt, alloc, request);
+        return dumped(alloc, request);
     }
-    let body = counter(rt, alloc, Some(COUNTERS[0]))?;
+    let body = counter(alloc, Some(COUNTERS[0]))?;
     datagrams.push(request.reply(alloc, FAMILY, NlmF::empty(), body)?)?;
     if request.wants_acknowledgement() {
         datagrams.push(request.acknowledgement(alloc, nothing)?)?;
@@ -74,24 +71,14 @@ fn read_all(
     handle: &mut NlRouterReceiverHandle<u16, Counter>,
 ) -> Result<Vec<Option<u32>>, Fail> {
     let mut values = Vec::new(alloc);
-    // No request here has more than five items.
-    for _ in 0..5 {
-        let Reply::Item(item) = router.next_typed::<u16, Counter, _, _>(alloc, handle)? else {
-            break;
-        };
-        let value = match &item {
-            Ok(message) => message.get_payload().and_then(|body| value_in(alloc, body)),
-            Err(_) => None,
-        };
-        values.push(value)?;
+    for item in router.read_dump(alloc, handle)?.items {
+        let body = item.as_ref().ok().and_then(|it| it.get_payload());
+        values.push(match body {
+            Some(body) => body.attrs().get(alloc, 1u16)?,
+            None => None,
+        })?;
     }
     Ok(values)
-}
-
-/// The value of a counter.
-fn value_in(alloc: Global, body: &Counter) -> Option<u32> {
-    let attrs = body.attrs().get_attr_handle();
-    attrs.get_attr_payload_as(alloc, 1u16).ok()
 }
 
 /// A request, and its answer: counters, and with none the ends, acknowledgements and errors.
@@ -112,16 +99,15 @@ fn a_family_is_served(rt: HostRuntime) -> Result<(), Fail> {
     let alloc = rt.alloc();
     let (mut router, _multicast) = NlRouter::<Log>::new(alloc, PORT);
     for (row, family, flags, want) in ROWS {
-        let body = NlPayload::Payload(counter(&rt, alloc, None)?);
-        let (sent, mut handle) = router.send::<_, _, u16, Counter>(alloc, family, flags, body)?;
-        let request = request(&rt, PORT, &sent);
+        let mut sent = router.request(alloc, family, flags, counter(alloc, None)?)?;
+        let request = request(&rt, PORT, &sent.bytes);
         assert!(rt; request.is_handled(), "at {row}");
-        for datagram in served(&rt, alloc, &request)? {
-            router.processing_loop(&datagram, &Groups::empty(alloc))?;
+        for datagram in served(alloc, &request)? {
+            router.receive_for(alloc, &datagram, &[])?;
         }
-        let got = read_all(alloc, &mut router, &mut handle)?;
+        let got = read_all(alloc, &mut router, &mut sent.handle)?;
         assert_eq!(rt; got.as_slice(), want, "at {row}");
-        router.close(handle);
+        router.close(sent.handle);
     }
     Ok(())
 }
