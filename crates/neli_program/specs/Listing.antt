@@ -1,4 +1,4 @@
--- What is printed of a datagram.
+-- The printed text of a datagram.
 use Rattle.std.specs.Prelude.{◌≡◌, ◌≢◌, ◌⊎◌, ◌<◌, ℕ, ℤ, List, ◌++◌, length, take, codes, Option, Some, None, Result, Ok}
 use Rattle.std.specs.Prelude.{nat_eq, if◌then◌else◌}
 use Rattle.std.specs.List.{flat_map}
@@ -22,19 +22,19 @@ use Rattle.neli_program.specs.declared.line.Ending.{Ending}
 use Rattle.neli_program.specs.declared.line.Ending.TheVariants.{Whole, Input, Short, Other, Memory}
 use Rattle.neli_program.specs.Lines.{hex4}
 
--- what the program reads after a header: a payload of bytes
+-- a payload as the program reads it: bytes
 abbrev pub RawPayload : Type 0
 RawPayload = NlPayload ℕ (List ℕ)
 
--- a message as the program reads it: its type a number
+-- a message as the program reads it: its type is a number
 abbrev pub Raw : Type 0
 Raw = Message ℕ (List ℕ)
 
--- what is printed of an answer after its kind: its code, and how many attributes it has
+-- the text of an answer: its kind, its code, and the number of its attributes
 abbrev pub count_text : List ℕ → ℤ → ℕ → List ℕ
 count_text kind code count = kind ++ (signed_decimal code ++ (codes " attributes " ++ decimal count))
 
--- what is printed of a kind
+-- the text of a kind
 abbrev pub kind_text : Kind → List ℕ
 kind_text (kind.Payload count) = codes "payload " ++ decimal count
 kind_text (kind.Ack count) = if nat_eq count 0 then codes "ack" else codes "ack attributes " ++ decimal count
@@ -43,7 +43,7 @@ kind_text (kind.Error code count) = count_text (codes "error ") code count
 kind_text (kind.Done code count) = count_text (codes "done ") code count
 kind_text kind.Empty = codes "empty"
 
--- the kind of a payload, and how many bytes or attributes it has
+-- the kind of a payload, with the number of its bytes or attributes
 abbrev pub kind_in : RawPayload → Kind
 kind_in (payload.Payload bytes) = kind.Payload (length bytes)
 kind_in (payload.Ack e) = kind.Ack (length e.ext_ack)
@@ -52,7 +52,7 @@ kind_in (payload.Err e) = kind.Error e.error (length e.ext_ack)
 kind_in (payload.DumpExtAck e) = kind.Done e.error (length e.ext_ack)
 kind_in payload.Empty = kind.Empty
 
--- what is printed of a header
+-- the text of a header
 abbrev pub heading_text : Heading → List ℕ
 heading_text h =
     codes "type " ++ decimal h.message_type
@@ -60,11 +60,11 @@ heading_text h =
     ++ codes " number " ++ decimal h.number
     ++ codes " port " ++ decimal h.port
 
--- the parts of a header that are printed
+-- the printed parts of a header
 abbrev pub heading_in : Header ℕ → Heading
 heading_in h = record { message_type = h.message_type; flags = h.flags.0; number = h.sequence_number; port = h.port }
 
--- the line of a message, and what is printed of it
+-- the line of a message
 abbrev pub line_in : Raw → Line
 line_in m = record { heading = heading_in m.0; kind = kind_in m.1 }
 
@@ -91,16 +91,16 @@ ending_of (Some (de.InvalidInput n)) = Input n
 ending_of (Some (de.Io UnexpectedEof)) = Short
 ending_of (Some e) = Other
 
--- how it ends where the next line is refused with e
+-- how it ends if the next line is refused with e
 abbrev pub ending_by : DeError → Ending
 ending_by de.Memory = Memory
 ending_by e = ending_of (Some e)
 
--- this is the line of the message that is read
+-- the line is that of the message that is read
 abbrev pub IsLineOf : Result Raw DeError → Line → Type 0
 IsLineOf reading line = (m : Raw) × (reading ≡ Ok m) × (line ≡ line_in m)
 
--- the bytes begin with a message of this line, and then stand those
+-- the bytes are a message with this line, and then the later ones
 abbrev pub BeginsWith : List ℕ → Line → List ℕ → Type 0
 BeginsWith bytes line later = (m : Raw) × (frame_at untyped_layout bytes ≡ Ok (m, later)) × (line ≡ line_in m)
 
@@ -109,30 +109,30 @@ abbrev pub BeginsWithBody : List ℕ → Type 0
 BeginsWithBody bytes = (m : Lent ℕ) × (rest : List ℕ) × (frame_at (lent_message (λ n. n)) bytes ≡ Ok (m, rest))
     × (m.0.message_type ≢ 2) × (m.0.message_type ≢ 3)
 
--- ---- where memory is asked for
+-- ---- what takes memory
 
--- where reading the message that begins the bytes takes memory, with a body as its bytes
+-- reading the message at the front of the bytes takes memory, with a body as its bytes
 abbrev pub reading_takes_memory : List ℕ → Type 0
 reading_takes_memory =
     frame_takes_memory untyped_layout (message_takes_memory (λ n. n) (λ b. Ok b) (λ b. 0 < length b))
 
--- where its line takes memory: a body that has its padding is not copied
+-- its line takes memory: a body that has its padding is not copied
 abbrev pub line_takes_memory : List ℕ → Type 0
 line_takes_memory bytes = reading_takes_memory bytes × (¬ BeginsWithBody bytes)
 
--- the datagram is the frames of its first k messages, and then bytes of which the line takes memory
+-- the datagram is the frames of its first k messages, and then bytes whose line takes memory
 abbrev pub TakesMemoryAfter : ℕ → List ℕ → Type 0
 TakesMemoryAfter k bytes = (front : List ℕ) × (left : List ℕ) × (bytes ≡ front ++ left)
     × AreFrames untyped_layout front (take k (raw_cut bytes).0) × line_takes_memory left
 
--- ---- what is listed
+-- ---- the listing
 
--- after the first k messages of a cut stands another, or a fault
+-- after the first k messages of a cut there is another, or a fault
 abbrev pub GoesOnAfter : ℕ → Cut Raw → Type 0
 GoesOnAfter k cut = (k < length cut.0) ⊎ (cut.1 ≢ None)
 
 -- the lines are those of the datagram's messages, and the ending that of its fault; or memory ran out at a
--- message or a fault that takes some, and they are those of all messages before it
+-- message or a fault that takes some, and the lines are those of all messages before it
 abbrev pub Lists : List ℕ → List ℕ → Ending → Type 0
 Lists bytes lines Memory =
     (k : ℕ) × GoesOnAfter k (raw_cut bytes) × TakesMemoryAfter k bytes × (lines ≡ lines_of (take k (raw_cut bytes).0))

@@ -1,4 +1,4 @@
--- What is printed of the outcomes of a script.
+-- The printed text of the outcomes of a script.
 use Rattle.std.specs.Prelude.{ℕ, ◌+◌, List, [], ◌∷◌, ◌++◌, codes, Ok, Err}
 use Rattle.std.specs.Fmt.{decimal, signed_decimal}
 use Rattle.std.specs.declared.io.ErrorKind.TheVariants.{ConnectionReset, UnexpectedEof}
@@ -13,15 +13,15 @@ use Rattle.neli_runs.specs.declared.command.Outcome.{Outcome}
 use Rattle.neli_runs.specs.declared.command.Outcome.TheVariants as outcome
 use Rattle.neli_program.specs.Listing.{line_of}
 
--- what came of a command of a script: types are numbers, payloads bytes
+-- the outcome of a command of a script: types are numbers, payloads bytes
 abbrev pub RawOutcome : Type 0
 RawOutcome = Outcome ℕ (List ℕ) ℕ (List ℕ)
 
--- an error of such an outcome
+-- an error in such an outcome
 abbrev pub RawError : Type 0
 RawError = RouterError ℕ (List ℕ)
 
--- where the bytes of a datagram are cut short
+-- why bytes were not read
 abbrev pub fault_text : DeError → List ℕ
 fault_text (de.InvalidInput n) = codes "input " ++ decimal n
 fault_text (de.Io UnexpectedEof) = codes "short"
@@ -52,7 +52,7 @@ refusal_text (router.SeqInUse n) = codes "in use " ++ decimal n
 refusal_text (router.Msg text) = codes "length"
 refusal_text e = codes "other"
 
--- what came of a command; the handle is that of the request that was sent last
+-- the text of an outcome; the handle is that of the last request
 abbrev pub outcome_text : ℕ → RawOutcome → List ℕ
 outcome_text handle outcome.Done = codes "ok"
 outcome_text handle (outcome.Sent bytes) =
@@ -64,7 +64,7 @@ outcome_text handle outcome.End = codes "end"
 outcome_text handle outcome.Waits = codes "waits"
 outcome_text handle outcome.NoHandle = codes "no handle"
 
--- how many requests were sent
+-- the number of requests that a command with this outcome sent
 abbrev pub sends : RawOutcome → ℕ
 sends (outcome.Sent bytes) = 1
 sends o = 0

@@ -1,4 +1,4 @@
--- What the words of a command line ask for, and what is said of wrong ones.
+-- The requests in the words of a command line, and what is printed for wrong ones.
 use Rattle.std.specs.Prelude.{◌≡◌, ℕ, List, [], ◌∷◌, map, codes, string_bytes, Option, Result, IsOkAnd, IsErrAnd, ⊤}
 use Rattle.std.specs.IoError.{error_kind}
 use Rattle.std.specs.Io.KnownBytes.{Appends}
@@ -32,12 +32,12 @@ AskForReplay words = IsOkAnd words (λ w. map string_bytes w.items ≡ codes "re
 abbrev pub RanOutOfMemory : Words → Type 0
 RanOutOfMemory words = IsErrAnd words (λ e. error_kind e ≡ OutOfMemory)
 
--- they ask for nothing that the program does
+-- they are none of these
 abbrev pub AreWrong : Words → Type 0
 AreWrong words =
     (¬ AskForList words) × (¬ AskForZero words) × (¬ AskForReplay words) × (¬ RanOutOfMemory words)
 
--- what these words ask for
+-- the request in these words
 abbrev pub Asks : Words → Request → Type 0
 Asks words request.List = AskForList words
 Asks words request.Zero = AskForZero words
@@ -45,7 +45,7 @@ Asks words request.Replay = AskForReplay words
 Asks words request.Memory = RanOutOfMemory words
 Asks words request.Usage = AreWrong words
 
--- complaints gain the usage line; of complaints that fail nothing is known
+-- complaints gain the usage line; nothing is known of complaints that fail
 abbrev pub Complains : Option (List ℕ) → Option (List ℕ) → Status → Type 0
 Complains old new status.Usage = Appends old new (codes "usage: neli_tool list [zero] | replay\n")
 Complains old new status.NoUsage = ⊤

@@ -1,4 +1,4 @@
--- What a run of the program prints, and how it ends.
+-- The printed text of a run of the program, and how it ends.
 use Rattle.std.specs.Prelude.{◌≡◌, ◌⊎◌, ℕ, List, ◌++◌, Option, ⊤}
 use Rattle.std.specs.Io.KnownBytes.{Appends, Keeps}
 use Rattle.neli_program.specs.declared.line.Ending.{Ending}
@@ -27,26 +27,26 @@ status_by Whole = status.Whole
 status_by Memory = status.Memory
 status_by e = status.Fault
 
--- ---- what is written
+-- ---- the text
 
--- what is made of a datagram: its bytes, the text, and how that ends
+-- how the bytes of a datagram, a text and its ending are related
 abbrev pub Makes : Type 1
 Makes = List ℕ → List ℕ → Ending → Type 0
 
--- the output gains the text that is made of the input, with this ending
+-- the output gains a text that is so related to the input, with this ending
 abbrev pub GainsText : Makes → Option (List ℕ) → Option (List ℕ) → Option (List ℕ) → Ending → Type 0
 GainsText makes known old new e =
     (bytes : List ℕ) × (text : List ℕ) × IsInput known bytes × makes bytes text e
     × Appends old new (text ++ ending e)
 
--- the output gains the one line that memory ran out; of an output that fails nothing is known
+-- the output gains only the line that memory ran out; nothing is known of an output that fails
 abbrev pub PrintsMemory : Option (List ℕ) → Option (List ℕ) → Status → Type 0
 PrintsMemory old new status.Memory = Appends old new (ending Memory)
 PrintsMemory old new status.NoOutput = ⊤
 PrintsMemory old new s = ⊥
 
--- the output gains the text that is made of the input, which ends as the status says, or nothing where the input
--- fails; where memory runs out while the input is read, which has a byte then, the line for that alone
+-- the output gains a text that is so related to the input and ends as the status says, or nothing if the input fails;
+-- if memory runs out while the input is read, which then has a byte or more, only the line for that
 abbrev pub Prints : Makes → Option (List ℕ) → Option (List ℕ) → Option (List ℕ) → Status → Type 0
 Prints makes known old new status.Whole = GainsText makes known old new Whole
 Prints makes known old new status.Fault =

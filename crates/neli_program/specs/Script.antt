@@ -1,4 +1,4 @@
--- Scripts: their lines, and what each says.
+-- Scripts: their lines, and the entry and the command of each.
 use Rattle.std.specs.Prelude.{◌≡◌, ◌≢◌, ⊤, ℕ, ◌+◌, Bool, true, false, ◌==◌, if◌then◌else◌, bit_and, List, [], ◌∷◌, codes}
 use Rattle.std.specs.Prelude.{IsSome, ◌<◌, length, take, Option, Some, None, Result, Ok, Err}
 use Rattle.std.specs.List.{AllZip, flat_map, slice_split}
@@ -23,17 +23,17 @@ use Rattle.neli_program.specs.Words.{bytes_of, bytes_take_memory, number}
 
 -- ---- lines and words
 
--- the lines of a text: what stands between its line feeds
+-- the lines of a text: the parts between its line feeds
 abbrev pub lines_in : List ℕ → List (List ℕ)
 lines_in text = slice_split (λ b. b == 10) text
 
--- the words of a line: what stands between its spaces
+-- the words of a line: the parts between its spaces
 abbrev pub words_in : List ℕ → List (List ℕ)
 words_in line = slice_split (λ b. b == 32) line
 
--- ---- what the words of a line say
+-- ---- the entry of a line
 
--- the fault of the link that has this name
+-- the fault of the link with this name
 abbrev pub fault_named : List ℕ → Option ErrorKind
 fault_named name =
     if bytes_eq name (codes "wouldblock") then Some WouldBlock
@@ -49,17 +49,17 @@ short_entry word argument =
     else (if bytes_eq word (codes "read") then option_map Read (number 64 argument)
     else (if bytes_eq word (codes "close") then option_map Close (number 64 argument) else None))))
 
--- a datagram; None where a word of it is bad
+-- a datagram; None if a word of it is bad
 abbrev pub datagram : Option ℕ → Option (List ℕ) → Option Entry
 datagram (Some mask) (Some bytes) = Some (Datagram mask bytes)
 datagram mask bytes = None
 
--- a request; None where a word of it is bad
+-- a request; None if a word of it is bad
 abbrev pub request : Option ℕ → Option ℕ → Option (List ℕ) → Option Entry
 request (Some message_type) (Some flags) (Some bytes) = Some (Request message_type flags bytes)
 request message_type flags bytes = None
 
--- what these words say; None where they are bad
+-- the entry of these words; None if they are bad
 abbrev pub entry_in : List (List ℕ) → Option Entry
 entry_in (word ∷ argument ∷ []) = short_entry word argument
 entry_in (word ∷ mask ∷ bytes ∷ []) =
@@ -69,7 +69,7 @@ entry_in (word ∷ message_type ∷ flags ∷ bytes ∷ []) =
     then request (number 16 message_type) (number 16 flags) (bytes_of bytes) else None
 entry_in words = None
 
--- where reading what they say takes memory: for the bytes of a datagram or a request of which the numbers are good
+-- reading it takes memory: for the bytes of a datagram or a request whose numbers are good
 abbrev pub entry_takes_memory : List (List ℕ) → Type 0
 entry_takes_memory (word ∷ mask ∷ bytes ∷ []) =
     (bytes_eq word (codes "data") ≡ true) × IsSome (number 32 mask) × bytes_take_memory bytes
@@ -78,7 +78,7 @@ entry_takes_memory (word ∷ message_type ∷ flags ∷ bytes ∷ []) =
     × bytes_take_memory bytes
 entry_takes_memory words = ⊥
 
--- ---- what a script says
+-- ---- the entries of a script
 
 -- the port is set on the first line that isn't empty, or not at all
 abbrev pub entry_if : Bool → Option Entry → Option Entry
@@ -86,26 +86,24 @@ entry_if true said = said
 entry_if false (Some (Port n)) = None
 entry_if false said = said
 
--- what line k says stands before what the others say; or the number of the first bad one
+-- the entry of line k before those of the others; or the number of the first bad line
 abbrev pub with_line : ℕ → Option Entry → Result (List Entry) ℕ → Result (List Entry) ℕ
 with_line k None later = Err k
 with_line k (Some entry) (Ok entries) = Ok (entry ∷ entries)
 with_line k (Some entry) (Err j) = Err j
 
--- what these lines say, counted from k on; or the number of the first bad one. An empty line says
--- nothing.
+-- the entries of these lines, counted from k on; or the number of the first bad one. An empty line has none.
 abbrev pub entries_from : Bool → ℕ → List (List ℕ) → Result (List Entry) ℕ
 entries_from first k [] = Ok []
 entries_from first k ([] ∷ lines) = entries_from first (k + 1) lines
 entries_from first k ((b ∷ line) ∷ lines) =
     with_line k (entry_if first (entry_in (words_in (b ∷ line)))) (entries_from false (k + 1) lines)
 
--- what a script says, or the number of its first bad line
+-- the entries of a script, or the number of its first bad line
 abbrev pub entries_of : List ℕ → Result (List Entry) ℕ
 entries_of text = entries_from true 1 (lines_in text)
 
--- these lines are good: each that isn't empty says something. Where `first`, the first such line may set
--- the port.
+-- these lines are good: each that isn't empty has an entry. If `first`, the first such line may set the port.
 abbrev pub AreGood : Bool → List (List ℕ) → Type 0
 AreGood first [] = ⊤
 AreGood first ([] ∷ lines) = AreGood first lines
@@ -118,9 +116,9 @@ IsFirstBad lines k =
     (before : ℕ) × (k ≡ before + 1) × (before < length lines)
     × AreGood true (take before lines) × (¬ AreGood true (take k lines))
 
--- ---- what that means to a router
+-- ---- the commands of a script
 
--- its port: what the script's first line sets, or 0
+-- the port of its router: that of its first line, or 0
 abbrev pub port_of : List Entry → ℕ
 port_of (Port n ∷ entries) = n
 port_of entries = 0
@@ -129,7 +127,7 @@ port_of entries = 0
 abbrev pub named_flags : ℕ → NlmF
 named_flags bits = flags_of (bit_and bits (known_bits nlm_f_names))
 
--- what a router is told by an entry: a command, but nothing by a port
+-- the command of an entry; none for a port
 abbrev pub IsTold : Entry → Option (Command ℕ (List ℕ)) → Type 0
 IsTold (Port n) told = told ≡ None
 IsTold (Number n) told = told ≡ Some (command.SetNextSeq n)
@@ -142,18 +140,18 @@ IsTold (Fault kind) told = told ≡ Some (command.Fault (socket.Io kind))
 IsTold (Read handle) told = told ≡ Some (command.Read handle)
 IsTold (Close handle) told = told ≡ Some (command.Close handle)
 
--- where telling an entry takes memory: for the groups of a datagram
+-- making that command takes memory: for the groups of a datagram
 abbrev pub telling_takes_memory : Entry → Type 0
 telling_takes_memory (Datagram mask bytes) = mask ≢ 0
 telling_takes_memory entry = ⊥
 
--- the commands are those that the entries tell, in order
+-- the commands are those of the entries, in order
 abbrev pub AreCommands : List Entry → List (Command ℕ (List ℕ)) → Type 0
 AreCommands entries commands =
     (told : List (Option (Command ℕ (List ℕ)))) × AllZip IsTold entries told
     × (commands ≡ flat_map option_to_list told)
 
--- a script with no bad line says this port and these commands
+-- a script with no bad line has this port and these commands
 abbrev pub IsScript : List ℕ → ℕ → List (Command ℕ (List ℕ)) → Type 0
 IsScript text port commands =
     (entries : List Entry) × (entries_of text ≡ Ok entries)

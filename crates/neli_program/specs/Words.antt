@@ -14,23 +14,23 @@ use Rattle.neli_program.specs.declared.words.LineError.TheVariants.{Bad, Memory}
 abbrev pub is_numeral : List ℕ → Bool
 is_numeral word = nat_lt 0 (length word) && list_all is_ascii_digit word
 
--- the number that a word is, where it has so many bits at most
+-- the number in a word, if it has so many bits at most
 abbrev pub number : ℕ → List ℕ → Option ℕ
 number bits word =
     if is_numeral word && nat_lt (digits_value 10 word) (2 ^ bits)
     then Some (digits_value 10 word) else None
 
--- the bytes that a word is: pairs of hexadecimal digits in either case, or `-` for no byte
+-- the bytes of a word: pairs of hexadecimal digits in either case, or `-` for no byte
 abbrev pub bytes_of : List ℕ → Option (List ℕ)
 bytes_of word =
     if bytes_eq word (codes "-") then Some []
     else (if bytes_eq word [] then None else result_ok (decode_of word))
 
--- where reading them takes memory: for pairs of characters, one or more
+-- reading them takes memory: for pairs of characters, one or more
 abbrev pub bytes_take_memory : List ℕ → Type 0
 bytes_take_memory word = (0 < length word) × (length word % 2 ≡ 0)
 
--- what is said is read, or refused as bad where nothing is said; or memory ran out, where that takes some
+-- the value is read, or refused as bad if there is none; or memory ran out, if reading takes some
 abbrev pub Reads : {A : Type 0} → Option A → Type 0 → Result A LineError → Type 0
 Reads said takes (Ok read) = said ≡ Some read
 Reads said takes (Err Bad) = said ≡ None

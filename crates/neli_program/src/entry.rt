@@ -10,26 +10,26 @@ use neli_attr::Buffer;
 use std::alloc::Global;
 use std::io::ErrorKind;
 
-/// What a line of a script says.
+/// A line of a script.
 #[derive(Drop)]
 pub enum Entry {
     /// `pid N`: the port of the router.
     Port(u32),
     /// `seq N`: the sequence number of the next request.
     Number(u32),
-    /// `send TYPE FLAGS BYTES`: a request of this type, with these flags and this payload.
+    /// `send TYPE FLAGS BYTES`: a request with this type, these flags and this payload.
     Request(u16, u16, Buffer),
-    /// `data MASK BYTES`: a datagram that came to the groups of this mask.
+    /// `data MASK BYTES`: a datagram that arrived for the groups of this mask.
     Datagram(u32, Buffer),
     /// `fault NAME`: a fault of the link.
     Fault(ErrorKind),
-    /// `read H`: the next item of this handle is read.
+    /// `read H`: reads the next item of this handle.
     Read(usize),
-    /// `close H`: this handle is closed.
+    /// `close H`: closes this handle.
     Close(usize),
 }
 
-/// The fault of the link that has this name.
+/// The fault of the link with this name.
 fn fault_kind(name: &[u8]) -> Option<ErrorKind>
     ensures { result ≡ fault_named name.now }
 {
@@ -44,7 +44,7 @@ fn fault_kind(name: &[u8]) -> Option<ErrorKind>
     }
 }
 
-/// What a line of these two words says.
+/// Reads a line of two words.
 fn read_short(word: &[u8], argument: &[u8]) -> Option<Entry>
     ensures { result ≡ short_entry word.now argument.now }
 {
@@ -63,7 +63,7 @@ fn read_short(word: &[u8], argument: &[u8]) -> Option<Entry>
     }
 }
 
-/// A datagram of these words. Memory is asked for its bytes, where the mask is good.
+/// Reads a datagram. Only its bytes take memory, and only if the mask is good.
 fn read_datagram(alloc: Global, mask: &[u8], bytes: &[u8]) -> Result<Entry, LineError>
     ensures { Reads (datagram (number 32 mask.now) (bytes_of bytes.now))
         (IsSome (number 32 mask.now) × bytes_take_memory bytes.now) result }
@@ -77,7 +77,7 @@ fn read_datagram(alloc: Global, mask: &[u8], bytes: &[u8]) -> Result<Entry, Line
     }
 }
 
-/// A request of these words. Memory is asked for its bytes, where the numbers are good.
+/// Reads a request. Only its bytes take memory, and only if the numbers are good.
 fn read_request(
     alloc: Global,
     message_type: &[u8],
@@ -101,7 +101,7 @@ fn read_request(
     }
 }
 
-/// What these words say.
+/// Reads the words of a line.
 fn read_words(alloc: Global, words: &[&[u8]]) -> Result<Entry, LineError>
     ensures { let said = map (λ word. word.now) words.now in
         Reads (entry_in said) (entry_takes_memory said) result }
@@ -129,9 +129,9 @@ fn read_words(alloc: Global, words: &[&[u8]]) -> Result<Entry, LineError>
     }
 }
 
-/// What a line says that isn't empty. Only the first such line may set the port.
+/// Reads a line that isn't empty. Only the first such line may set the port.
 pub(crate) fn read_line(alloc: Global, line: &[u8], first: bool) -> Result<Entry, LineError>
-    // The words take memory, and there is one at least.
+    // The list of words takes memory, since it has one at least.
     ensures { Reads (entry_if first (entry_in (words_in line.now))) ⊤ result }
 {
     let words = parts_of(alloc, line, b' ')?;

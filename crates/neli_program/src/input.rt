@@ -1,4 +1,4 @@
-//! The whole of an input.
+//! Reads a whole input.
 
 ghost use Rattle.std.specs.Prelude.{◌≡◌, IfOk, IfErr};
 ghost use Rattle.neli_program.specs.Inputs.{HasAtLeast, IsInput};
@@ -7,10 +7,10 @@ use std::alloc::{AllocError, Global};
 use std::io;
 use std::io::Read;
 
-/// How often the input is read at most.
+/// The maximum number of calls of `read`.
 const MOST_READS: u32 = 1_000_000;
 
-/// How many bytes one call of `read` may give: a million calls then take 4 GB at most.
+/// The maximum number of bytes that one call of `read` returns: a million calls then return some 4 GB.
 const PIECE: usize = 4096;
 
 /// Why the input was not read.
@@ -46,14 +46,14 @@ impl From<AllocError> for InputError {
     }
 }
 
-/// All the bytes that the input still has.
+/// Reads all the bytes that the input still has.
 ///
-/// Refused where a call of `read` fails, where the input has not ended after a million calls of `read`,
-/// and where memory runs out, which is asked for where a byte came. The bytes that were read are lost then.
+/// Refused if a call of `read` fails, if the input has not ended after a million calls, and if memory runs out; only an
+/// input with a byte or more takes memory. The bytes that were read are lost then.
 #[tactic(auto, using(crate::proofs::Streams::consumes_long, crate::proofs::Streams::longer))]
 pub fn read_whole<R: Read>(alloc: Global, input: &mut R) -> Result<Vec<u8>, InputError>
     ensures whole { IfOk result (λ bytes. IsInput (R.remaining input.old) bytes.items) }
-    // A call that is not the last gives a byte or more.
+    // Each call before the end returns a byte or more.
     ensures endless { IfErr result (λ e. e ≡ InputError.Endless
         → HasAtLeast 1000000 (R.remaining input.old)) }
     ensures memory { IfErr result (λ e. e ≡ InputError.Memory → HasAtLeast 1 (R.remaining input.old)) }

@@ -1,11 +1,11 @@
-//! What the program `neli_tool` does, over a reader and a writer of the caller's.
+//! The work of the program `neli_tool`, over the caller's reader and writers.
 //!
 //! - [`run`] does what the words of the command line request, and returns how the run ends.
 //! - [`listing`] lists the messages of a datagram; `list` reads one and writes its listing.
 //! - [`rewriting`] writes a datagram again, with zeros for its padding; `list_zero` does so for an input.
-//! - [`replay`] reads a script, which has a command on each line, lets a new router run its commands, and writes a line
-//!   for each; [`laws`] states which line is named as bad.
-//! - [`line`] is the text of one message, and of what ends a datagram.
+//! - [`replay`] reads a script, performs its commands with a new router, and writes a line for each; [`laws`] states
+//!   which line is named as bad.
+//! - [`line`] has the line of a message, and that of an ending.
 //! - [`input`] reads a whole input.
 //! - [`status`] is how a run ends.
 #![tactic(auto)]

@@ -12,7 +12,7 @@ use neli_lent::LentMessage;
 use neli_reader::{NlPayload, Nlmsghdr};
 use std::fmt;
 
-/// A message as it was read: its type a number, its payload bytes.
+/// A message whose type is a number and whose payload is bytes.
 pub type RawMessage = Nlmsghdr<u16, Buffer>;
 
 /// A number as four lower-case hexadecimal digits.
@@ -31,7 +31,7 @@ impl fmt::Display for FourDigits {
     }
 }
 
-/// The kind of a payload, with its code and how many bytes or attributes it has.
+/// The kind of a payload, with its code and the number of its bytes or attributes.
 #[derive(Clone, Copy)]
 enum Kind {
     Payload(usize),
@@ -61,7 +61,7 @@ impl fmt::Display for Kind {
     }
 }
 
-/// The kind of a payload that was read.
+/// The kind of a payload.
 fn kind_in(payload: &NlPayload<u16, Buffer>) -> Kind
     ensures { result ≡ kind_in (payload_view (λ b. b) payload.now) }
 {
@@ -75,7 +75,7 @@ fn kind_in(payload: &NlPayload<u16, Buffer>) -> Kind
     }
 }
 
-/// What is printed of a header: its type, flags, sequence number and port.
+/// The printed part of a header: its type, flags, sequence number and port.
 #[derive(Clone, Copy)]
 struct Heading {
     message_type: u16,
@@ -102,7 +102,7 @@ impl fmt::Display for Heading {
     }
 }
 
-/// The line of a message: its header and what it carries.
+/// The line of a message: its header and the kind of its payload.
 #[derive(Clone, Copy)]
 pub struct Line {
     heading: Heading,
@@ -110,7 +110,7 @@ pub struct Line {
 }
 
 impl Line {
-    /// The line of a message that was read.
+    /// The line of an owned message.
     pub fn of(message: &RawMessage) -> Line
         ensures { result ≡ line_in (message_of (λ b. b) message.now) }
     {
@@ -125,7 +125,7 @@ impl Line {
         }
     }
 
-    /// The line of a message that is lent, and carries a body.
+    /// The line of a lent message with a body.
     pub fn of_body(message: &LentMessage<'_, u16>) -> Line
         ensures { result ≡ line_in (message.now.header, payload.Payload message.now.payload.now) }
     {
@@ -159,13 +159,13 @@ impl fmt::Display for Line {
 pub enum Ending {
     /// After the last message nothing is left.
     Whole,
-    /// A length is wrong; it is the count of bytes that the fault names.
+    /// A length is wrong; this is the number in the fault.
     Input(usize),
     /// Bytes are missing.
     Short,
-    /// Another refusal to read, which no payload of plain bytes has.
+    /// Another refusal, which plain bytes never cause.
     Other,
-    /// An acknowledgement or a capped error has bytes after the header that it echoes, which are not read.
+    /// An acknowledgement or a capped error has bytes after the echoed header that are not read.
     Tail,
     /// Memory ran out.
     Memory,

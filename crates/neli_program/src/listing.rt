@@ -25,7 +25,7 @@ use std::alloc::Global;
 use std::io;
 use std::io::{ErrorKind, Read, Write};
 
-/// The ending for a datagram that has this fault.
+/// The ending for a datagram with this fault.
 pub fn fault_ending(fault: &DeError) -> Ending
     ensures { result ≡ ending_of (Some fault.now) }
 {
@@ -36,7 +36,7 @@ pub fn fault_ending(fault: &DeError) -> Ending
     }
 }
 
-/// The ending where the next line is refused with this error.
+/// The ending if the next line is refused with this error.
 pub(crate) fn ending_at(error: &DeError) -> Ending
     ensures { result ≡ ending_by error.now }
 {
@@ -46,11 +46,11 @@ pub(crate) fn ending_at(error: &DeError) -> Ending
     }
 }
 
-/// The line of a message that is lent. A body is not looked at; an error, an acknowledgement or the end of a
-/// dump is read, since its attributes are counted.
+/// The line of a lent message. A body is not read; an error, an acknowledgement or the end of a dump is, since its
+/// attributes are counted.
 ///
-/// Refused as that payload is refused. It takes memory where the payload has attributes or an echo to copy; a body
-/// takes none.
+/// Refused as that payload is refused. It takes memory if the payload has attributes or an echo to copy; a body takes
+/// none.
 fn line_of(alloc: Global, message: &LentMessage<'_, u16>) -> Result<Line, DeError>
     ensures value { IfOk result
         (IsLineOf (as_owned (λ n. n) (λ n. n) (λ b. Ok b) (message_view message.now))) }
@@ -69,7 +69,7 @@ fn line_of(alloc: Global, message: &LentMessage<'_, u16>) -> Result<Line, DeErro
     Ok(Line::of_body(message))
 }
 
-/// Reads the message that the cursor's rest begins with as an owned one, and gives its line.
+/// Reads the message at the front of the cursor's rest as an owned one, and returns its line.
 fn read_owned_line(alloc: Global, cursor: &mut Cursor<'_>) -> Result<Line, DeError>
     ensures value { IfOk result (λ l. BeginsWith cursor.old.rest l cursor.new.rest) }
     ensures refused { IfErr result (Refuses (frame_at untyped_layout cursor.old.rest)
@@ -81,10 +81,10 @@ fn read_owned_line(alloc: Global, cursor: &mut Cursor<'_>) -> Result<Line, DeErr
     Ok(Line::of(&message))
 }
 
-/// Reads the message that the cursor's rest begins with, and gives its line.
+/// Reads the message at the front of the cursor's rest, and returns its line.
 ///
-/// Refused as reading it as an untyped message is. It takes memory only where that reading does, for bytes that are
-/// copied; and none where the payload is a body by the message's type alone, and the padding is there.
+/// Refused as reading it as an untyped message is. It takes memory only where that reading does, for copied bytes; and
+/// none if the payload is a body by the message's type alone, and the padding is there.
 pub fn read_line(alloc: Global, cursor: &mut Cursor<'_>) -> Result<Line, DeError>
     ensures value { IfOk result (λ l. BeginsWith cursor.old.rest l cursor.new.rest) }
     ensures refused { IfErr result (Refuses (frame_at untyped_layout cursor.old.rest)
@@ -95,7 +95,7 @@ pub fn read_line(alloc: Global, cursor: &mut Cursor<'_>) -> Result<Line, DeError
 {
     let mut ahead = cursor.ahead();
     let Ok(message) = LentMessage::lend(&mut ahead) else {
-        // Of several faults the payload's own comes before missing padding, so the message is read whole.
+        // A fault of the payload is reported before missing padding, so the whole message is read.
         return read_owned_line(alloc, cursor);
     };
     let line = line_of(alloc, &message)?;
@@ -103,13 +103,13 @@ pub fn read_line(alloc: Global, cursor: &mut Cursor<'_>) -> Result<Line, DeError
     Ok(line)
 }
 
-/// Writes a line for each message of a datagram, and answers how they end.
+/// Writes a line for each message of a datagram, and returns how they end.
 ///
-/// Where memory runs out, the lines are those of the messages before it did, and the line after them takes memory.
+/// If memory runs out, the lines are those of the messages before, and the next line takes memory.
 pub fn write_lines<W: Write>(alloc: Global, bytes: &[u8], output: &mut W) -> io::Result<Ending>
     ensures lists { IfOk result (λ e. (lines : List ℕ) × Lists bytes.now lines e
         × Appends (W.contents output.old) (W.contents output.new) lines) }
-    // Plain bytes have no fault but those that have a line of their own.
+    // Plain bytes have only faults with a line of their own.
     ensures named { IfOk result (λ e. e ≢ line.Other) }
 {
     let mut cursor = Cursor::new(bytes);
@@ -122,7 +122,7 @@ pub fn write_lines<W: Write>(alloc: Global, bytes: &[u8], output: &mut W) -> io:
     Ok(Ending::Whole)
 }
 
-/// Writes the line of an ending, if it has one, and passes all on that was written.
+/// Writes the line of an ending, if it has one, and flushes the output.
 pub fn write_ending<W: Write>(ending: Ending, output: &mut W) -> io::Result<()>
     ensures { OnOk result
         (Appends (W.contents output.old) (W.contents output.new) (ending_text ending)) }
@@ -131,7 +131,7 @@ pub fn write_ending<W: Write>(ending: Ending, output: &mut W) -> io::Result<()>
     output.flush()
 }
 
-/// Writes a text and its ending.
+/// Writes a text and its ending, and flushes the output.
 pub fn write_text<W: Write>(text: &[u8], ending: Ending, output: &mut W) -> io::Result<()>
     ensures { OnOk result (Appends (W.contents output.old) (W.contents output.new)
         (text.now ++ ending_text ending)) }
@@ -140,7 +140,7 @@ pub fn write_text<W: Write>(text: &[u8], ending: Ending, output: &mut W) -> io::
     write_ending(ending, output)
 }
 
-/// Writes the lines of a datagram and their ending, which it answers.
+/// Writes the lines of a datagram and their ending, and returns the ending.
 fn write_listing<W: Write>(alloc: Global, bytes: &[u8], output: &mut W) -> io::Result<Ending>
     ensures { IfOk result (λ e. (lines : List ℕ) × Lists bytes.now lines e
         × Appends (W.contents output.old) (W.contents output.new) (lines ++ ending_text e)) }
@@ -150,7 +150,7 @@ fn write_listing<W: Write>(alloc: Global, bytes: &[u8], output: &mut W) -> io::R
     Ok(ending)
 }
 
-/// How a run ends that wrote a text with this ending.
+/// The status of a run that wrote a text with this ending.
 pub fn status_of(ending: Ending) -> Status
     ensures { result ≡ status_by ending }
 {
@@ -171,10 +171,10 @@ pub fn out_of_memory<W: Write>(output: &mut W) -> Status
     }
 }
 
-/// Lists the datagram that the input is: a line for each message, then the line of its fault.
+/// Lists the datagram in the input: a line for each message, then the line of its fault.
 ///
-/// The input is read whole before the first line is written; nothing is written where it fails or does not
-/// end. Each line goes out as it is made, so `output` is best one that buffers.
+/// The whole input is read before the first line is written; nothing is written if it fails or does not end. Each line
+/// is written as it is made, so `output` should buffer.
 #[tactic(auto, using(crate::proofs::Runs::text_prints, crate::proofs::Runs::memory_prints))]
 pub fn list<R: Read, W: Write>(alloc: Global, input: &mut R, output: &mut W) -> Status
     ensures text { Prints Lists (R.remaining input.old)

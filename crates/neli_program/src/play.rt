@@ -1,4 +1,4 @@
-//! A script that is played line by line.
+//! Plays a script line by line.
 
 ghost use Rattle.std.specs.Prelude.{◌≡◌, ◌≤◌, [], IfOk, IfErr, OnOk, vec_len};
 ghost use Rattle.neli_program.specs.declared.script.ScriptError.TheVariants as script;
@@ -14,11 +14,11 @@ use neli_attr::Buffer;
 use neli_runs::{Command, Deliveries, OpenRun};
 use std::alloc::Global;
 
-/// What was played so far. No command and no outcome is kept.
+/// A script that is being played. No command and no outcome is kept.
 #[derive(Drop)]
 struct Playing<D> {
     run: OpenRun<D, u16, Buffer>,
-    /// How many requests were sent: handle k is that of the k-th.
+    /// The number of sent requests: handle k is that of the k-th.
     sent: usize,
     /// The lines of the outcomes.
     lines: Vec<u8>,
@@ -65,7 +65,7 @@ impl<D: Deliveries> Playing<D> {
         Ok(())
     }
 
-    /// Does what a line says. A port is that of a new router, since only the first line sets one.
+    /// Follows a line. A port begins a new router, since only the first line sets one.
     fn follow(&mut self, alloc: Global, entry: Entry) -> Result<(), ScriptError>
         requires { self.old.sent ≤ vec_len self.old.lines }
         ensures follows { OnOk result (Follows entry
@@ -93,7 +93,7 @@ impl<D: Deliveries> Playing<D> {
 
 /// Plays a script with a new router, and returns the lines of the outcomes of its commands.
 ///
-/// Refused where a line is bad, by the number of the first such line, and where memory runs out.
+/// Refused with the number of the first bad line, or if memory runs out.
 pub(crate) fn play<D: Deliveries>(alloc: Global, script: &[u8]) -> Result<Vec<u8>, ScriptError>
     ensures text { IfOk result (λ text. Answers script.now text.items) }
     ensures bad { IfErr result (BadLineOf script.now) }

@@ -1,4 +1,4 @@
-//! A script that is read and answered.
+//! Reads a script and plays it.
 
 ghost use Rattle.std.specs.Prelude.{◌≡◌, OnOk};
 ghost use Rattle.std.specs.Io.KnownBytes.{Appends};
@@ -42,7 +42,7 @@ fn write_bad_line<W: Write>(line: usize, output: &mut W) -> Status
     }
 }
 
-/// Writes a text, and passes all on.
+/// Writes a text, and flushes the output.
 fn write_whole<W: Write>(text: &[u8], output: &mut W) -> io::Result<()>
     ensures { OnOk result (Appends (W.contents output.old) (W.contents output.new) text.now) }
 {
@@ -50,13 +50,12 @@ fn write_whole<W: Write>(text: &[u8], output: &mut W) -> io::Result<()>
     output.flush()
 }
 
-/// Reads a script, does what it says with a new router that keeps its deliveries in a `D`, and writes a line
-/// for each command.
+/// Reads a script, performs its commands with a new router that keeps its deliveries in a `D`, and writes a line for
+/// each command.
 ///
-/// The whole script is played before anything is written: its text and the lines of its outcomes are kept until then,
-/// and no command or outcome. Where a line is bad, only the number of the first
-/// such line is written; where memory runs out, only that. Nothing is written where the input fails or does
-/// not end.
+/// The whole script is played before anything is written. Until then its text and the lines of its outcomes are kept,
+/// but no command or outcome. If a line is bad, only the number of the first such line is written; if memory runs out,
+/// only that. Nothing is written if the input fails or does not end.
 pub fn replay<D: Deliveries, R: Read, W: Write>(
     alloc: Global,
     input: &mut R,

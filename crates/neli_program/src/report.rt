@@ -13,10 +13,10 @@ use neli_wire::DeError;
 use std::io;
 use std::io::{ErrorKind, Write};
 
-/// What comes of a command of a script.
+/// The outcome of a command of a script.
 pub type RawOutcome = Outcome<u16, Buffer, u16, Buffer>;
 
-/// Why an item of a script is no message.
+/// An error in such an outcome.
 pub type RawError = RouterError<u16, Buffer>;
 
 /// Writes bytes in lower-case hexadecimal.
@@ -89,7 +89,7 @@ fn write_refusal<W: Write>(error: &RawError, output: &mut W) -> io::Result<()>
     }
 }
 
-/// Writes the line of what came of a command, where so many requests were sent with it.
+/// Writes the line of an outcome, without its end. `handle` counts the requests sent so far, its own included.
 fn write_outcome<W: Write>(outcome: &RawOutcome, handle: usize, output: &mut W) -> io::Result<()>
     ensures { OnOk result (Appends (W.contents output.old) (W.contents output.new)
         (outcome_text handle outcome.now)) }
@@ -118,7 +118,7 @@ fn write_outcome<W: Write>(outcome: &RawOutcome, handle: usize, output: &mut W) 
     }
 }
 
-/// How many requests were sent by a command of which this came: one or none.
+/// The number of requests that a command with this outcome sent: one or none.
 pub(crate) fn count_sent(outcome: &RawOutcome) -> usize
     ensures { result ≡ sends outcome.now }
 {
@@ -128,7 +128,7 @@ pub(crate) fn count_sent(outcome: &RawOutcome) -> usize
     }
 }
 
-/// Writes the line of what came of a command, where so many requests were sent with it, and ends it.
+/// Writes the line of an outcome. `handle` counts the requests sent so far, its own included.
 pub(crate) fn write_line<W: Write>(
     outcome: &RawOutcome,
     handle: usize,

@@ -25,21 +25,21 @@ use neli_wire::{Cursor, DeError, FromBytes, ToBytes};
 use std::alloc::Global;
 use std::io::{Read, Write};
 
-/// What a datagram is written again as, and how that ends.
+/// A datagram that is written again, and how that ends.
 #[derive(Drop)]
 pub struct Rewriting {
-    /// All the bytes of the datagram, with zeros for its padding; none where it has a fault.
+    /// All the bytes of the datagram, with zeros for its padding; none if the ending is not `Whole`.
     pub bytes: Vec<u8>,
     /// How that ends.
     pub ending: Ending,
 }
 
-/// How long an acknowledgement or a capped error is that has nothing after the header that it echoes: its own
-/// header of 16 bytes, a code of 4, and that header of 16.
+/// The length of an acknowledgement or a capped error with nothing after the echoed header: its own header of 16 bytes,
+/// a code of 4, and that header of 16.
 const WHOLE_ECHO: u32 = 36;
 
-/// Whether what follows a header that is echoed alone was read, in a message of these flags and this length:
-/// it is attributes, or nothing.
+/// Whether what follows a header that is echoed without a payload was read, in a message with these flags and this
+/// length: it is attributes, or nothing.
 fn is_tail_read(flags: NlmF, len: u32) -> bool
     ensures { IsTrue result ↔ IsAllRead (tail_of flags) len }
 {
@@ -62,10 +62,10 @@ fn is_whole(message: &RawMessage) -> bool
     }
 }
 
-/// What the message that begins these bytes is written again as: as many bytes as it has, or none where a part of it is
+/// Writes the message at the front of these bytes again: returns as many bytes as it has, or none if a part of it is
 /// not read.
 ///
-/// Refused as reading it is; memory may run out where a header is there.
+/// Refused as reading it is; memory may run out only if there is a header.
 fn message_again(alloc: Global, bytes: &[u8]) -> Result<Option<Vec<u8>>, DeError>
     ensures value { IfOk result (λ again. IsAgain bytes.now (option_map (λ w. w.items) again)) }
     ensures refused { IfErr result (Refuses (frame_at untyped_layout bytes.now) (16 ≤ length bytes.now)) }
@@ -79,14 +79,14 @@ fn message_again(alloc: Global, bytes: &[u8]) -> Result<Option<Vec<u8>>, DeError
     let Ok(()) = message.to_bytes(&mut written) else {
         return Err(DeError::Memory);
     };
-    // What is written is as long as what was read.
+    // Never true: the written message is as long as the one read.
     if written.len() + cursor.rest().len() != bytes.len() {
         return Err(DeError::Memory);
     }
     Ok(Some(written))
 }
 
-/// Puts bytes over those at a place.
+/// Overwrites the bytes at a place.
 fn put(bytes: &mut Vec<u8>, at: usize, piece: &[u8])
     requires { at + length piece.now ≤ length bytes.old.items }
     ensures { bytes.new.items ≡ take at bytes.old.items ++ (piece.now
@@ -95,7 +95,7 @@ fn put(bytes: &mut Vec<u8>, at: usize, piece: &[u8])
     bytes[at..at + piece.len()].copy_from_slice(piece);
 }
 
-/// Nothing is written, for this ending.
+/// A rewriting of no bytes, with this ending.
 fn nothing(alloc: Global, ending: Ending) -> Rewriting
     ensures { (result.bytes.items ≡ []) × (result.ending ≡ ending) }
 {
@@ -103,8 +103,8 @@ fn nothing(alloc: Global, ending: Ending) -> Rewriting
     Rewriting { bytes, ending }
 }
 
-/// Nothing is written of a datagram that goes on so with a message that has a tail: a fault after it stands before the
-/// tail.
+/// A rewriting of no bytes, for a datagram whose rest begins with a message that has a tail: a fault after it is
+/// reported in place of the tail.
 fn after_tail(alloc: Global, left: &[u8]) -> Rewriting
     ensures { TailEnds left.now result.bytes.items result.ending }
 {
@@ -117,16 +117,16 @@ fn after_tail(alloc: Global, left: &[u8]) -> Rewriting
     nothing(alloc, Ending::Tail)
 }
 
-/// A law: what a slice of bytes has are bytes. It does nothing.
+/// A law: the items of a slice of bytes are bytes. It does nothing.
 fn are_bytes(bytes: &[u8])
     ensures { AreBytes bytes.now }
 {
     let _ = bytes;
 }
 
-/// What a datagram is written again as, in the memory that it has: message by message over itself.
+/// Writes a datagram again, in its own memory: message by message over itself.
 ///
-/// Where it has a fault, it is not written, nor where a message has bytes that are not read.
+/// The result has no bytes if the datagram has a fault, a message has unread bytes, or memory runs out.
 pub fn rewriting_of(alloc: Global, bytes: Vec<u8>) -> Rewriting
     ensures { Rewrites bytes.items result.bytes.items result.ending }
 {
@@ -150,9 +150,9 @@ pub fn rewriting_of(alloc: Global, bytes: Vec<u8>) -> Rewriting
     }
 }
 
-/// Writes the datagram that the input is, with zeros for its padding, or the line of its fault alone.
+/// Writes the datagram in the input, with zeros for its padding, or only the line of its fault.
 ///
-/// Nothing is written where the input fails or does not end.
+/// Nothing is written if the input fails or does not end.
 #[tactic(auto, using(crate::proofs::Runs::text_prints, crate::proofs::Runs::memory_prints))]
 pub fn list_zero<R: Read, W: Write>(alloc: Global, input: &mut R, output: &mut W) -> Status
     ensures text { Prints Rewrites (R.remaining input.old)

@@ -18,22 +18,22 @@ use std::alloc::Global;
 use std::io;
 use std::io::{ErrorKind, Read, Write};
 
-/// What the arguments after the program's name ask for.
+/// The request in the arguments after the program's name.
 #[derive(Clone, Copy, Debug, PartialEq, Eq)]
 pub enum Request {
     /// To list a datagram: the one word `list`.
     List,
     /// To write a datagram with zeros for its padding: the words `list` and `zero`.
     Zero,
-    /// To answer a script: the one word `replay`.
+    /// To play a script: the one word `replay`.
     Replay,
-    /// Nothing that the program does.
+    /// To print the usage line: any other arguments.
     Usage,
-    /// It is not known: memory ran out while they were read.
+    /// To report that memory ran out while they were read.
     Memory,
 }
 
-/// These are this one word.
+/// Whether there is only this word.
 fn are_one(words: &[String], name: &str) -> bool
     ensures { IsTrue result ↔ (map string_bytes words.now ≡ name.now ∷ []) }
 {
@@ -43,7 +43,7 @@ fn are_one(words: &[String], name: &str) -> bool
     }
 }
 
-/// These are the words `list` and `zero`.
+/// Whether these are the words `list` and `zero`.
 fn is_list_zero(words: &[String]) -> bool
     ensures { IsTrue result ↔ (map string_bytes words.now ≡ codes "list" ∷ codes "zero" ∷ []) }
 {
@@ -53,8 +53,8 @@ fn is_list_zero(words: &[String]) -> bool
     }
 }
 
-/// What these words ask for. Words that could not be read for another reason than memory, as one that is
-/// not UTF-8, ask for nothing that the program does.
+/// The request in these words. Words that could not be read for another reason than memory, as one that is not UTF-8,
+/// are wrong.
 #[tactic(auto, using(crate::proofs::Asked::list_words, crate::proofs::Asked::zero_words, crate::proofs::Asked::replay_words, crate::proofs::Asked::memory_error, crate::proofs::Asked::other_words, crate::proofs::Asked::other_error))]
 pub fn requested(words: &io::Result<Vec<String>>) -> Request
     ensures { Asks words.now result }
@@ -95,11 +95,11 @@ fn complain<C: Write>(complaints: &mut C) -> Status
     }
 }
 
-/// Does what these words ask for, and answers how the run ends; the exit status is its `code`.
+/// Does what these words request, and returns how the run ends; the exit status is its `code`.
 ///
-/// The words are looked at first. Only where they ask for a datagram or a script is the input read, whole and
-/// before anything is written. Words that ask for nothing are answered by the usage line on `complaints`. A
-/// script is answered over deliveries that are kept in a `D`.
+/// The words are checked first. The input is read only if they request a datagram or a script: whole, and before
+/// anything is written. For wrong words the usage line is written to `complaints`. The router of a script keeps its
+/// deliveries in a `D`.
 #[tactic(auto, using(crate::proofs::Asked::not_both, crate::proofs::Asked::not_zero_too, crate::proofs::Asked::not_replay_too, crate::proofs::Asked::list_or_zero, crate::proofs::Asked::list_or_replay, crate::proofs::Asked::zero_or_replay, crate::proofs::Asked::memory_no_input))]
 pub fn run<D: Deliveries, R: Read, W: Write, C: Write>(
     alloc: Global,

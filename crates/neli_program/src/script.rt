@@ -1,4 +1,4 @@
-//! What a script says to a router.
+//! The commands of a script.
 
 ghost use Rattle.std.specs.Prelude.{◌≡◌, IfOk, OnErr};
 ghost use Rattle.neli_program.specs.declared.script.ScriptError.TheVariants as script;
@@ -13,10 +13,10 @@ use neli_util::Groups;
 use neli_wire::NoMemory;
 use std::alloc::{AllocError, AllocFailed, Global};
 
-/// Why a script is not read.
+/// Why a script is not played.
 #[derive(Clone, Copy, Debug, PartialEq, Eq)]
 pub(crate) enum ScriptError {
-    /// The line of this number is the first bad one. Lines are counted from 1.
+    /// The line with this number is the first bad one. Lines are counted from 1.
     BadLine(usize),
     /// Memory ran out.
     Memory,
@@ -46,9 +46,9 @@ impl From<NoMemory> for ScriptError {
     }
 }
 
-/// What a router is told by this line. A port is not told to it.
+/// The command of a line; none for a port.
 ///
-/// Refused only where memory runs out, which is asked for the groups of a datagram alone.
+/// Refused only if memory runs out; only the groups of a datagram take some.
 pub(crate) fn command_of(
     alloc: Global,
     entry: Entry,

@@ -13,7 +13,7 @@ use std::str;
 /// Why a line is not read.
 #[derive(Clone, Copy, Debug, PartialEq, Eq)]
 pub(crate) enum LineError {
-    /// It says nothing that a script can say.
+    /// It is no line of a script.
     Bad,
     /// Memory ran out.
     Memory,
@@ -30,7 +30,7 @@ impl From<AllocError> for LineError {
     }
 }
 
-/// What stands between the bytes of this value. The parts are lent.
+/// The parts between the bytes of this value, which are lent.
 pub(crate) fn parts_of<'t>(
     alloc: Global,
     text: &'t [u8],
@@ -42,14 +42,14 @@ pub(crate) fn parts_of<'t>(
     text.split(|byte| *byte == mark).collect(alloc)
 }
 
-/// Whether these are decimal digits alone.
+/// Whether these are only decimal digits.
 fn are_digits(bytes: &[u8]) -> bool
     ensures { result ≡ list_all is_ascii_digit bytes.now }
 {
     bytes.iter().all(|byte| byte.is_ascii_digit())
 }
 
-/// The text of a word that is a decimal digit or more, and nothing else.
+/// The text of a word of one or more decimal digits; none for any other.
 fn numeral(word: &[u8]) -> Option<&str>
     ensures { MatchOption result (is_numeral word.now ≡ false)
         (λ text. (text.now ≡ word.now) × (is_numeral word.now ≡ true)) }
@@ -60,28 +60,28 @@ fn numeral(word: &[u8]) -> Option<&str>
     str::from_utf8(word).ok()
 }
 
-/// The number of a word, where it has 16 bits at most.
+/// The number in a word, if it has 16 bits at most.
 pub(crate) fn number_u16(word: &[u8]) -> Option<u16>
     ensures { result ≡ number 16 word.now }
 {
     numeral(word)?.parse().ok()
 }
 
-/// The number of a word, where it has 32 bits at most.
+/// The number in a word, if it has 32 bits at most.
 pub(crate) fn number_u32(word: &[u8]) -> Option<u32>
     ensures { result ≡ number 32 word.now }
 {
     numeral(word)?.parse().ok()
 }
 
-/// The number of a word, where it has 64 bits at most.
+/// The number in a word, if it has 64 bits at most.
 pub(crate) fn number_usize(word: &[u8]) -> Option<usize>
     ensures { result ≡ number 64 word.now }
 {
     numeral(word)?.parse().ok()
 }
 
-/// The bytes of a word: pairs of hexadecimal digits, or `-` for no byte. Memory is asked for pairs alone.
+/// The bytes of a word: pairs of hexadecimal digits, or `-` for no byte. Only pairs take memory.
 pub(crate) fn read_bytes(alloc: Global, word: &[u8]) -> Result<Buffer, LineError>
     ensures { Reads (bytes_of word.now) (bytes_take_memory word.now) result }
 {

@@ -211,7 +211,7 @@ pub fn next_message(bytes: &[u8], walk: &mut Walk, message: &mut Message) -> i32
     unsafe { neli_c_next_message(bytes.as_ptr(), bytes.len(), walk, message) }
 }
 
-/// The next attributes of a walk over these bytes, as many as there is room for: the code, and those that are given.
+/// The code, and the next attributes of a walk over these bytes, as many as there is room for.
 pub fn next_attributes<'a>(bytes: &[u8], walk: &mut Walk, room: &'a mut [Attribute]) -> (i32, &'a [Attribute]) {
     let mut count = 0;
     let (at, length) = (room.as_mut_ptr(), room.len());
@@ -220,7 +220,7 @@ pub fn next_attributes<'a>(bytes: &[u8], walk: &mut Walk, room: &'a mut [Attribu
     (code, room.get(..count).unwrap_or_default())
 }
 
-/// What an error, an acknowledgement or the end of a dump says.
+/// The contents of an error, an acknowledgement or the end of a dump.
 pub fn get_answer(bytes: &[u8], message: &Message, answer: &mut Answer) -> i32 {
     // SAFETY: pointer and length are those of one slice, and the others are borrows, that of `answer` exclusive.
     unsafe { neli_c_get_answer(bytes.as_ptr(), bytes.len(), message, answer) }
@@ -295,7 +295,7 @@ impl Router {
         }
     }
 
-    /// Takes in a datagram that came to these groups.
+    /// Takes in a datagram that arrived for these groups.
     pub fn datagram(&mut self, bytes: &[u8], groups: &[u32]) -> i32 {
         // SAFETY: the router is open, and borrowed exclusively; each pointer and its length are those of one slice.
         // The library copies what it keeps.
@@ -314,7 +314,7 @@ impl Router {
         unsafe { neli_c_router_read(self.raw(), handle, item) }
     }
 
-    /// Reads what comes to groups next.
+    /// Reads the next item of multicast.
     pub fn listen(&mut self, item: &mut Item) -> i32 {
         // SAFETY: the router is open, and borrowed exclusively, as `item` is.
         unsafe { neli_c_router_listen(self.raw(), item) }
@@ -326,7 +326,7 @@ impl Router {
         unsafe { neli_c_router_item(self.raw(), out.as_mut_ptr(), out.len(), length) }
     }
 
-    /// Lends the next item of a handle: `lent` gives it, until the next call.
+    /// Lends the next item of a handle: `lent` returns it, until the next call.
     pub fn lend(&mut self, handle: usize) -> i32 {
         let empty: &'static [u8] = &[];
         let mut lent = RawLent { message: Message::default(), bytes: empty.as_ptr(), length: 0, error: 0 };
@@ -351,7 +351,7 @@ impl Router {
         unsafe { neli_c_router_pass(self.raw(), handle) }
     }
 
-    /// How the answer to the request of a handle stands.
+    /// The verdict on the answer to a handle's request.
     pub fn verdict(&mut self, handle: usize, verdict: &mut Verdict) -> i32 {
         // SAFETY: the router is open, and borrowed exclusively, as `verdict` is.
         unsafe { neli_c_router_verdict(self.raw(), handle, verdict) }
@@ -416,7 +416,7 @@ struct Header {
     flags: c_int,
 }
 
-/// A `struct cmsghdr` that carries a `struct nl_pktinfo`, with its padding: the one control message that is asked for.
+/// A `struct cmsghdr` with a `struct nl_pktinfo`, with its padding: the one control message that is requested.
 #[repr(C, align(8))]
 #[derive(Clone, Copy, Debug, Default)]
 struct Control {
@@ -457,12 +457,12 @@ fn checked(result: c_int) -> io::Result<c_int> {
     if result < 0 { Err(io::Error::last_os_error()) } else { Ok(result) }
 }
 
-/// A length that a call of the system answered, or its error.
+/// A length that a system call returned, or its error.
 fn counted(result: isize) -> io::Result<usize> {
     usize::try_from(result).map_err(|_| io::Error::last_os_error())
 }
 
-/// A datagram that was received: its length as it was sent, the sender's port, and the group that it came to, or 0.
+/// A received datagram: its length as it was sent, the sender's port, and the group for which it arrived, or 0.
 #[derive(Clone, Copy, Debug, PartialEq, Eq)]
 pub struct Received {
     pub length: usize,
@@ -470,7 +470,7 @@ pub struct Received {
     pub group: u32,
 }
 
-/// A netlink socket of a family, bound to a port, or to one of the kernel's choice where it is 0.
+/// A netlink socket of a family, bound to a port, or to one of the kernel's choice if it is 0.
 pub fn open(family: i32, port: u32) -> io::Result<OwnedFd> {
     let address = Address { family: AF_NETLINK, port, ..Address::default() };
     // SAFETY: no pointer is passed, and the new descriptor is this function's alone. The pointer is to `address`, with
@@ -537,8 +537,8 @@ pub fn send(fd: RawFd, bytes: &[u8], port: u32) -> io::Result<usize> {
     counted(unsafe { sendto(fd, bytes.as_ptr(), bytes.len(), 0, &address, ADDRESS_SIZE) })
 }
 
-/// Receives the datagram that is there into these bytes, and does not wait for one. One that is longer loses its rest,
-/// and its whole length is given all the same.
+/// Receives the datagram that has arrived into these bytes, and does not wait for one. A longer one loses its rest, and
+/// its whole length is returned.
 pub fn receive(fd: RawFd, bytes: &mut [u8]) -> io::Result<Received> {
     let mut from = Address::default();
     let mut control = Control::default();
@@ -580,8 +580,8 @@ pub fn signal(event: RawFd) -> io::Result<usize> {
     counted(unsafe { write(event, (&raw const one).cast(), size_of::<u64>()) })
 }
 
-/// Waits until one of three descriptors can be read, at most so many milliseconds, or without end below 0: whether one
-/// can. Below 0 there is no descriptor.
+/// Waits until one of three descriptors can be read, at most so many milliseconds, or without end below 0: returns
+/// whether one can. A descriptor below 0 is none.
 pub fn wait(fds: [RawFd; 3], milliseconds: c_int) -> io::Result<bool> {
     let mut watched = fds.map(|fd| Watched { fd, events: POLLIN, found: 0 });
     // SAFETY: pointer and count are those of one array of this function.

@@ -4,18 +4,18 @@
 //! RFC 3549 section 2.3.2 and `struct nlmsghdr` of linux/netlink.h give the layout of the datagrams; the
 //! lines and the order of the faults are the program's own (docs/FRAMES.md), written out by hand.
 //!
-//! They call `run`, `replay` and what these are made of, over [`readers`] and [`writers`]
-//! of their own, and scripts over both stores of deliveries.
+//! They call `run`, `replay` and the parts of these, over [`readers`] and [`writers`] of their own, and play scripts
+//! over both stores of deliveries.
 //!
-//! - [`arguments`]: what the words of a command line ask for. [`input`], [`output`]: what is read and written, where it
-//!   fails too. [`listing`], [`rewriting`]: lines of datagrams, and datagrams that are written again.
-//! - [`datagrams`], [`reasons`]: recorded datagrams against what libmnl reads in them, and why the kernel refuses.
-//!   [`lengths`]: each datagram of these tests cut at each place, and with each length in it set wrong, against
-//!   [`rules`], which says what comes of any bytes.
-//! - [`answers`], [`conversations`], [`bad_lines`], [`scripts_output`]: scripts, what is answered, and where that
-//!   fails. [`scripts`]: how a script is played. [`large`]: a datagram above 64 KB, and a script of more than a
-//!   thousand commands. [`laws`]: the laws, called.
-//! - [`out_of_memory`], [`scripts_out_of_memory`]: where an allocation is refused. [`support`]: what the tests share.
+//! - [`arguments`]: the requests in the words of a command line. [`input`], [`output`]: reading and writing, failures
+//!   included. [`listing`], [`rewriting`]: lines of datagrams, and datagrams that are written again.
+//! - [`datagrams`], [`reasons`]: recorded datagrams compared with libmnl's reading of them, and why the kernel refuses.
+//!   [`lengths`]: each datagram of these tests cut at each place, and with each length in it set wrong, compared with
+//!   [`rules`], which has the result for any bytes.
+//! - [`answers`], [`conversations`], [`bad_lines`], [`scripts_output`]: scripts, their outcomes, and their failures.
+//!   [`scripts`]: how a script is played. [`large`]: a datagram above 64 KB, and a script of more than a thousand
+//!   commands. [`laws`]: the laws, called.
+//! - [`out_of_memory`], [`scripts_out_of_memory`]: refused allocations. [`support`]: code that the tests share.
 
 mod answers;
 mod arguments;

@@ -13,7 +13,7 @@ use crate::socket::synchronous::{NlSocketHandle, Wait};
 use crate::utils::Groups;
 use std::sync::Arc;
 
-/// A router of one owner, over a link of its own, which is a socket where nothing else is said.
+/// A router with one owner, over a link of its own, by default a socket.
 ///
 /// An item borrows the router, so the compiler refuses a call while it is held:
 ///
@@ -27,7 +27,7 @@ use std::sync::Arc;
 /// }
 /// ```
 ///
-/// The same in the other order is built:
+/// The other order compiles:
 ///
 /// ```
 /// # use neli::err::RouterError;
@@ -44,8 +44,8 @@ pub struct LendingRouter<L = NlSocketHandle> {
     link: Arc<L>,
 }
 
-/// What the items of one request are lent by, or what comes to the router's groups. It is of one router, and says
-/// nothing to another one. What still comes for one that is not closed is kept until the router is dropped.
+/// The handle of the items of one request, or of multicast. It is only for the router that returned it. Items that
+/// still arrive for one that is not closed are kept until the router is dropped.
 #[derive(Debug)]
 pub struct LendingHandle {
     handle: usize,
@@ -53,16 +53,16 @@ pub struct LendingHandle {
 }
 
 impl LendingRouter {
-    /// A router over a new socket, and the handle of what comes to its groups. Refused where the system gives no such
-    /// socket, or memory runs out.
+    /// A router over a new socket in these groups, and the handle of multicast. Refused if the system refuses the
+    /// socket, and if memory runs out.
     pub fn connect(family: NlFamily, port: Option<u32>, groups: Groups) -> Result<(Self, LendingHandle), RouterError> {
         Self::over(NlSocketHandle::connect(family, port, groups)?)
     }
 }
 
 impl<L: Link + 'static> LendingRouter<L> {
-    /// A router over a link, which nobody else receives from, and the handle of what comes to its groups. Refused where
-    /// memory runs out.
+    /// A router over a link, from which nothing else may receive, and the handle of multicast. Refused if memory runs
+    /// out.
     ///
     /// ```
     /// use neli::consts::nl::NlmF;
@@ -109,11 +109,11 @@ impl<L: Link + 'static> LendingRouter<L> {
         &self.link
     }
 
-    /// Sends a request, and gives the handle of its items. A dump goes out when the one before has ended, and what
-    /// comes of that waits at its handle.
+    /// Sends a request, and returns the handle of its items. A dump is sent when the one before has ended, whose items
+    /// wait at their handle.
     ///
-    /// Refused where the body can't be written, as `SeqInUse` where an answer with its number may still come, where the
-    /// link refuses to send it, and where memory runs out.
+    /// Refused if the body can't be written, as `SeqInUse` if an answer with its number may still arrive, if the link
+    /// refuses to send it, and if memory runs out.
     pub fn send<T: NlType, P: ToBytes>(
         &mut self,
         nl_type: T,
@@ -131,12 +131,12 @@ impl<L: Link + 'static> LendingRouter<L> {
     }
 
     /// Lends the next item of a handle, until the next call of the router; none after the last. It waits until one
-    /// comes. The item stays the next one until [`pass`](LendingRouter::pass). Of what comes to groups there is no last
-    /// one, and an error message to them is an item.
+    /// arrives. The item stays the next one until [`pass`](LendingRouter::pass). Multicast has no last item, and an
+    /// error message in it is an item.
     ///
-    /// Where the kernel refuses a request, and where something is lost or can't be read, that is an error in an item's
-    /// place, and is passed. Refused also where the wait is over, where memory runs out, and as `ClosedChannel` where
-    /// the handle is not open.
+    /// If the kernel refuses a request, or if something is lost or can't be read, that is an error in an item's place,
+    /// and is passed. Refused also if the wait has ended, if memory runs out, and as `ClosedChannel` if the handle is
+    /// not open.
     pub fn lend_next(&mut self, handle: &LendingHandle) -> Result<Option<LentMessage<'_>>, RouterError> {
         let wait = Wait::begin(self.link.limit());
         let mut has_come = false;
@@ -157,20 +157,21 @@ impl<L: Link + 'static> LendingRouter<L> {
         }
     }
 
-    /// Goes on to a handle's next item; where none waits nothing changes.
+    /// Goes on to a handle's next item; if none waits, nothing changes.
     ///
-    /// Refused as `Memory` alone, at an error message to groups, and then it stays the next one.
+    /// Refused only as `Memory`, at a message of multicast that is an error or can't be read, which then stays the next
+    /// one.
     pub fn pass(&mut self, handle: &LendingHandle) -> Result<(), RouterError> {
         self.state.pass(handle.handle)
     }
 
-    /// How the answer to the request of a handle stands, by the items that were passed: whether that is all. Of what
-    /// comes to groups it is always `Pending`.
+    /// The verdict on the answer to a handle's request, by the items that were passed: whether they are all. That on
+    /// multicast is always `Pending`.
     pub fn verdict(&mut self, handle: &LendingHandle) -> Verdict {
         handle.number.map_or(Verdict::Pending, |_| self.state.verdict(handle.handle).0)
     }
 
-    /// Closes a handle. What still comes for its request is nobody's then, and is not kept.
+    /// Closes a handle. Messages that still arrive for its request are dropped.
     pub fn close(&mut self, handle: LendingHandle) {
         match handle.number {
             Some(number) => self.state.give_up(number),

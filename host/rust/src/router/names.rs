@@ -1,4 +1,4 @@
-//! Names of generic netlink: what the controller says of families and groups.
+//! Names of generic netlink: the families and groups of the controller.
 
 use super::synchronous::{NlRouter, NlRouterReceiverHandle, Verdict};
 use crate::consts::genl::{CtrlAttr, CtrlAttrMcastGrp, CtrlCmd};
@@ -26,7 +26,7 @@ impl<L: Link + 'static> NlRouter<L> {
         self.send(GenlId::Ctrl, flags, NlPayload::Payload(body))
     }
 
-    /// The bodies in which the controller tells of a family.
+    /// The bodies of the controller's replies for a family.
     fn get_genl_family(&self, name: &str) -> Result<Vec<Controller>, RouterError> {
         let words = |error: BuildError| RouterError::new(error.to_string());
         let kind = AttrTypeBuilder::default().nla_type(CtrlAttr::FamilyName).build().map_err(words)?;
@@ -67,7 +67,7 @@ impl<L: Link + 'static> NlRouter<L> {
         Ok(groups)
     }
 
-    /// The names of the family and the group of generic netlink that have this group's number.
+    /// The names of the family and the group of generic netlink for this number of a group.
     pub fn lookup_id(&self, id: u32) -> Result<(String, String), RouterError> {
         let mut found = None;
         let mut replies = self.ask_controller(NlmF::DUMP, GenlBuffer::new())?;
@@ -86,7 +86,7 @@ impl<L: Link + 'static> NlRouter<L> {
     }
 }
 
-/// The groups that the controller tells of in a body.
+/// The groups in a body of the controller.
 fn groups_of(body: &Controller) -> Result<Vec<(String, u32)>, RouterError> {
     let attributes = body.attrs().get_attr_handle();
     let Some(list) = attributes.get_attribute(CtrlAttr::McastGroups) else { return Ok(Vec::new()) };

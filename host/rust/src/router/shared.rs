@@ -1,4 +1,4 @@
-//! What a router and its handles share, and how they wait.
+//! The state that a router and its handles share, and their waits.
 
 use super::state::{State, Step};
 use crate::consts::nl::NlmF;
@@ -7,8 +7,8 @@ use crate::link::Link;
 use crate::socket::synchronous::Wait;
 use std::sync::{Arc, Condvar, Mutex, MutexGuard, PoisonError};
 
-/// One of the threads that wait watches the link. Whoever is in a call receives what is there, under the lock, so that
-/// it is taken in in the order in which the link gave it, and wakes those whom it is for.
+/// One of the waiting threads watches the link. A thread in a call receives datagrams under the lock, which keeps the
+/// link's order, and wakes their readers.
 #[derive(Debug)]
 pub(super) struct Shared {
     link: Arc<dyn Link>,
@@ -25,8 +25,8 @@ impl Shared {
         self.state.lock().unwrap_or_else(PoisonError::into_inner)
     }
 
-    /// Sends a request: its number and its handle. The kernel runs one dump on a socket at a time, so one goes out when
-    /// the one before has ended.
+    /// Sends a request, and returns its number and its handle. The kernel runs one dump on a socket at a time, so a
+    /// dump is sent when the one before has ended.
     pub(super) fn send(&self, kind: u16, flags: NlmF, body: &[u8]) -> Result<(u32, usize), RouterError> {
         let is_dump = flags.contains(NlmF::DUMP);
         let mut state = self.state();
@@ -49,7 +49,7 @@ impl Shared {
         }
     }
 
-    /// Sends requests as one datagram: the number and the handle of each. Where one is refused, none is sent.
+    /// Sends requests as one datagram, and returns the number and the handle of each. If one is refused, none is sent.
     pub(super) fn send_all(&self, requests: &[(u16, NlmF, Vec<u8>)]) -> Result<Vec<(u32, usize)>, RouterError> {
         let mut state = self.state();
         state.settle(true)?;
@@ -71,7 +71,7 @@ impl Shared {
         }
     }
 
-    /// The bytes of the next item of a handle, or none after the last. It waits until something comes.
+    /// The bytes of the next item of a handle, or none after the last. It waits until one arrives.
     pub(super) fn next(&self, handle: usize, bell: &Arc<Condvar>) -> Result<Option<Vec<u8>>, RouterError> {
         let wait = Wait::begin(self.link.limit());
         let mut state = self.state();
@@ -103,7 +103,7 @@ impl Shared {
         next
     }
 
-    /// Waits until something has come for a handle, or at the link; refused where the wait is over.
+    /// Waits until something has arrived for a handle, or at the link; refused if the wait has ended.
     fn wait<'s>(
         &'s self,
         mut state: MutexGuard<'s, State>,
@@ -132,7 +132,7 @@ impl Shared {
         (state, Ok(()))
     }
 
-    /// Drops what comes to groups until nothing is there.
+    /// Drops the messages that have arrived for groups, until none is left.
     pub(super) fn drop_multicast(&self) -> Result<(), RouterError> {
         let wait = Wait::begin(self.link.limit());
         let mut state = self.state();

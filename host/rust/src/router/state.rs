@@ -1,4 +1,4 @@
-//! What a router keeps: it takes in what the link gives, and each handle reads its share.
+//! The state of a router: it takes in datagrams and faults of the link, and each handle reads its share.
 
 use super::ledger::{Ledger, Owners};
 use super::verdict::Verdict;
@@ -13,22 +13,22 @@ use std::io;
 use std::ops::Range;
 use std::sync::{Arc, Condvar};
 
-/// The handle of what comes to groups.
+/// The handle of messages for groups.
 pub(super) const MULTICAST: usize = 0;
 
-/// The handle of what no request has asked for, which the library's router does not have.
+/// The handle of messages without a request, which the library's router does not have.
 pub(super) const UNASKED: usize = usize::MAX;
 
-/// `EMSGSIZE`, by which the router is told of a datagram that was cut.
+/// `EMSGSIZE`, the fault that the library's router gets for a cut datagram.
 const CUT: i32 = 90;
 
-/// So many requests may be given up before what is there is received, so that those are forgotten that are answered.
+/// Above this number of requests the link is read before another is sent, to forget given-up ones that are answered.
 const CROWD: usize = 256;
 
-/// So many faults in a row, without end, are those of a socket that is gone.
+/// The number of consecutive faults that mean that the socket is gone.
 const FAULTS: u32 = 8;
 
-/// A fault of the link, which can be told more than once.
+/// A fault of the link, which can be reported more than once.
 #[derive(Clone, Copy, Debug)]
 pub(super) enum Fault {
     System(i32),
@@ -51,11 +51,11 @@ impl Fault {
     }
 }
 
-/// What was received and is not handed in yet. A part of it stays where the library has no memory.
+/// What was received and is not handed in yet. A part of it stays while the library has no memory.
 #[derive(Clone, Copy, Debug)]
 enum Held {
-    /// The rest of the datagram in the room; `is_half` says that its first run has gone to its request, and not yet to
-    /// multicast.
+    /// The rest of the datagram in the room; `is_half` is whether its first run was handed in for its request, but not
+    /// yet for multicast.
     Datagram {
         walk: ffi::Walk,
         group: u32,
@@ -64,7 +64,7 @@ enum Held {
     Fault(Fault),
 }
 
-/// Messages that stand side by side and are for the same; or the end of a datagram that cannot be read.
+/// Consecutive messages with the same receivers; or the end of a datagram that cannot be read.
 #[derive(Debug)]
 struct Run {
     bytes: Range<usize>,
@@ -75,17 +75,17 @@ struct Run {
     ended: Option<u32>,
 }
 
-/// Where among the messages for multicast something was lost.
+/// The places of losses among the messages for multicast.
 #[derive(Debug, Default)]
 struct Losses {
     came: u64,
     read: u64,
-    /// Each with the count of messages that came before it.
+    /// Each with the number of messages that arrived before it.
     at: VecDeque<(u64, Fault)>,
 }
 
 impl Losses {
-    /// Something is lost here. What is lost at one place is told once, as what came last.
+    /// Notes a loss here. A loss at one place is reported once, as the latest fault.
     fn note(&mut self, fault: Fault) {
         if self.at.back().is_some_and(|(place, _)| *place == self.came) {
             self.at.pop_back();
@@ -93,14 +93,14 @@ impl Losses {
         self.at.push_back((self.came, fault));
     }
 
-    /// The loss before the next message.
+    /// Takes the loss before the next message, if there is one.
     fn next(&mut self) -> Option<Fault> {
         let (place, _) = self.at.front()?;
         if *place <= self.read { self.at.pop_front().map(|(_, fault)| fault) } else { None }
     }
 }
 
-/// What comes of a read.
+/// The result of a read.
 pub(super) enum Step {
     Item(Vec<u8>),
     Error(RouterError),
@@ -108,7 +108,7 @@ pub(super) enum Step {
     Waits,
 }
 
-/// What comes of a lend. `lent` gives an item.
+/// The result of a lend. `lent` returns the item.
 pub(super) enum Lend {
     Item,
     Error(RouterError),
@@ -121,22 +121,22 @@ pub(super) struct State {
     link: Arc<dyn Link>,
     router: ffi::Router,
     ledger: Ledger,
-    /// The handle whose reader waits at the link, where one does; and whether it was woken.
+    /// The handle whose reader waits at the link, if one does; and whether it was woken.
     pub(super) watcher: Option<usize>,
     is_woken: bool,
-    /// The bells of the others that wait, by their handles.
+    /// The bells of the other waiting readers, by their handles.
     pub(super) bells: HashMap<usize, Arc<Condvar>>,
     room: Vec<u8>,
     held: Option<Held>,
-    /// The fault of the link that came last, and how many came in a row.
+    /// The latest fault of the link, and the number of consecutive ones.
     fault: Option<Fault>,
     faults: u32,
-    /// What was lost of what comes to groups, as long as somebody reads that.
+    /// The losses of multicast, until its handle is closed.
     losses: Option<Losses>,
-    /// What no request has asked for, where somebody reads it.
+    /// The messages without a request and the faults among them, if they are kept.
     unasked: Option<VecDeque<Result<Vec<u8>, Fault>>>,
-    /// The handle whose item was read last, where there was no memory for its bytes; and what was fetched since for
-    /// handles that have not read again.
+    /// The handle whose item was read last, if there was no memory for its bytes; and the items that were fetched since
+    /// for handles that have not read again.
     unfetched: Option<usize>,
     fetched: HashMap<usize, Vec<u8>>,
 }
@@ -166,7 +166,7 @@ impl State {
         self.router.set_number(number);
     }
 
-    /// A request, as bytes; with its number and its handle.
+    /// Makes a request: returns its bytes, its number and its handle.
     pub(super) fn request(
         &mut self,
         kind: u16,
@@ -191,7 +191,7 @@ impl State {
         Ok((out, number, sent.handle))
     }
 
-    /// Nobody reads this request any more.
+    /// This request is no longer read.
     pub(super) fn give_up(&mut self, number: u32) {
         if let Some(handle) = self.ledger.give_up(number) {
             self.close(handle);
@@ -212,20 +212,20 @@ impl State {
         self.unfetched.take_if(|it| *it == handle);
     }
 
-    /// What no request has asked for is kept from now on: not where it was kept before.
+    /// Keeps messages without a request from now on; false if they were kept already.
     pub(super) fn keep_unasked(&mut self) -> bool {
         let is_new = self.unasked.is_none();
         self.unasked.get_or_insert_default();
         is_new
     }
 
-    /// It is kept no longer.
+    /// Keeps them no longer.
     pub(super) fn drop_unasked(&mut self) {
         self.unasked = None;
     }
 
-    /// Makes the link ready for a request: before a dump, after a loss and where many requests were given up, it
-    /// takes in what is there, until no dump runs, what was given up has its answer, and nothing is dropped any more.
+    /// Makes the link ready for a request: before a dump, after a loss and with many requests, it takes in all that has
+    /// arrived, until no dump runs, given-up requests have their answers, and nothing is dropped any more.
     pub(super) fn settle(&mut self, is_dump: bool) -> Result<(), RouterError> {
         if is_dump || self.ledger.is_congested() || self.ledger.count() > CROWD {
             while !self.ledger.is_settled() && self.faults < FAULTS && self.receive()? {}
@@ -244,14 +244,14 @@ impl State {
         }
     }
 
-    /// The fault that a link gives without end which is gone.
+    /// The latest fault, if there were so many that the link is gone.
     pub(super) fn last_fault(&self) -> Option<RouterError> {
         self.fault.filter(|_| self.faults >= FAULTS).map(Fault::error)
     }
 
-    // ---- What comes
+    // ---- What arrives
 
-    /// Receives what is there, hands it in, and wakes those whom it is for: whether something was there.
+    /// Receives the next datagram or fault, hands it in, and wakes its readers; false if none has arrived.
     pub(super) fn receive(&mut self) -> Result<bool, RouterError> {
         if self.held.is_none() {
             self.held = match self.link.receive(&mut self.room) {
@@ -277,7 +277,7 @@ impl State {
         Ok(true)
     }
 
-    /// Hands in what is held. Where the library has no memory, the rest is held on.
+    /// Hands in what is held. If the library has no memory, the rest stays held.
     fn hand_in(&mut self) -> Result<(), RouterError> {
         while let Some(held) = self.held {
             match held {
@@ -299,7 +299,7 @@ impl State {
         Ok(())
     }
 
-    /// The messages that come next and are for the same.
+    /// The next held messages with the same receivers.
     fn next_run(&self, walk: ffi::Walk, group: u32) -> Run {
         let mut run =
             Run { bytes: walk.place..walk.place, count: 0, owners: Owners::default(), is_fault: false, ended: None };
@@ -342,7 +342,7 @@ impl State {
         Ok(())
     }
 
-    /// A run was handed in.
+    /// Notes a run that was handed in.
     fn note_run(&mut self, run: &Run) {
         if run.is_fault {
             return self.ring_all();
@@ -369,7 +369,8 @@ impl State {
         }
     }
 
-    /// A fault was handed in: each open request is given it, and who listens, in its place.
+    /// Notes a fault that was handed in: each open request gets it, and so do readers of multicast and of messages
+    /// without a request, in its place.
     fn note_fault(&mut self, fault: Fault) {
         self.fault = Some(fault);
         self.faults += 1;
@@ -408,13 +409,13 @@ impl State {
         }
     }
 
-    /// Nobody waits at the link any more.
+    /// No reader waits at the link now.
     pub(super) fn end_watch(&mut self) {
         self.watcher = None;
         self.is_woken = false;
     }
 
-    /// One who leaves has another one watch the link, where nobody does.
+    /// Wakes another reader to watch the link, if none does.
     pub(super) fn pass_on_watch(&self) {
         if let (None, Some(bell)) = (self.watcher, self.bells.values().next()) {
             bell.notify_one();
@@ -423,7 +424,7 @@ impl State {
 
     // ---- What is read
 
-    /// What a handle is given now.
+    /// Reads the next item of a handle, if it has one now.
     pub(super) fn read(&mut self, handle: usize) -> Step {
         if let Some(owner) = self.unfetched.take() {
             match self.item(owner) {
@@ -448,8 +449,8 @@ impl State {
         }
     }
 
-    /// How the answer to the request of a handle stands, and whether the kernel did filter it. An item that was read
-    /// and not given yet, for want of memory, counts as one to come.
+    /// The verdict on the answer to a handle's request, and whether the kernel filtered it. An item that was read but
+    /// not returned yet, because there was no memory, counts as one to come.
     pub(super) fn verdict(&mut self, handle: usize) -> (Verdict, bool) {
         if self.unfetched == Some(handle) || self.fetched.contains_key(&handle) {
             return (Verdict::Pending, false);
@@ -482,7 +483,7 @@ impl State {
         }
     }
 
-    /// What comes to groups next, whatever it is. What was lost is told by `losses`, each in its place.
+    /// The next item of multicast, whatever it is. `losses` reports its losses, each in its place.
     fn listen(&mut self, item: &mut ffi::Item) -> i32 {
         loop {
             match self.router.listen(item) {
@@ -516,8 +517,8 @@ impl State {
         self.router.lent().map(|(head, payload)| LentMessage::new(head, payload))
     }
 
-    /// Goes past the next item of a handle. To groups, one that would end the handle is read by the listener, who goes
-    /// on.
+    /// Goes past the next item of a handle. One that would end that of multicast is read by `listen`, which does not
+    /// end it.
     pub(super) fn pass(&mut self, handle: usize) -> Result<(), RouterError> {
         if handle != MULTICAST {
             self.router.pass(handle);
@@ -537,7 +538,7 @@ impl State {
         Ok(())
     }
 
-    /// The error of a lend, by its code: that of the kernel is what is lent.
+    /// The error of a lend, by its code: the kernel's is the lent item.
     fn lent_error(&self, code: i32) -> RouterError {
         match self.lent().map(|it| it.to_nlmsghdr::<u16, Buffer>()) {
             Some(Ok(message)) => message.into_err().map_or_else(|| self.error(code), RouterError::Nlmsgerr),
@@ -546,7 +547,7 @@ impl State {
         }
     }
 
-    /// The bytes of the item that was read last, for this handle. Where there is no memory, the next read fetches it.
+    /// The bytes of the item that was read last, for this handle. If there is no memory, the next read fetches it.
     fn item(&mut self, handle: usize) -> Result<Vec<u8>, RouterError> {
         let mut bytes = vec![0; 1024];
         let mut length = 0;
@@ -581,7 +582,7 @@ impl State {
     }
 }
 
-/// Whether the library has taken something in.
+/// Whether the library has taken something in, by its code.
 fn taken(code: i32) -> Result<(), RouterError> {
     match code {
         ffi::END => Ok(()),
@@ -590,7 +591,7 @@ fn taken(code: i32) -> Result<(), RouterError> {
     }
 }
 
-/// Completes the padding of the last message of a datagram, which a sender may leave out: the datagram's end.
+/// Completes the padding of a datagram's last message, which a sender may leave out: returns the datagram's end.
 fn completed(room: &mut Vec<u8>, length: usize) -> usize {
     if length % 4 == 0 {
         return length;
@@ -613,7 +614,7 @@ fn completed(room: &mut Vec<u8>, length: usize) -> usize {
 mod tests {
     use super::completed;
 
-    /// A message of 17 bytes of payload, as many bytes of which came as are said.
+    /// The end of a datagram with a message of 17 bytes of payload, of which so many bytes have arrived.
     fn end_of(came: usize) -> usize {
         let mut room = vec![9; 64];
         room[..4].copy_from_slice(&33u32.to_ne_bytes());

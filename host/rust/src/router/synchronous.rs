@@ -1,8 +1,8 @@
-//! A router whose handles wait for what comes.
+//! A router whose handles wait for their messages.
 //!
-//! There is no thread: whoever reads a handle that has nothing yet receives what is there, for every handle. Several
-//! threads can read handles of one router at a time: one of them waits at the socket, the others until something is for
-//! them.
+//! There is no thread: a read of a handle that has nothing yet receives what has arrived, for every handle. Several
+//! threads can read handles of one router at a time: one of them waits at the socket, the others until their handles
+//! have something.
 
 pub use super::notice::{Missed, Notice};
 use super::shared::Shared;
@@ -20,7 +20,7 @@ use crate::{FromBytes, ToBytes};
 use std::marker::PhantomData;
 use std::sync::{Arc, Condvar};
 
-/// A router over a link of its own, which is a socket where nothing else is said. Handles can outlive it.
+/// A router over a link of its own, by default a socket. Handles can outlive it.
 #[derive(Debug)]
 pub struct NlRouter<L = NlSocketHandle> {
     shared: Arc<Shared>,
@@ -35,7 +35,7 @@ impl<L> Clone for NlRouter<L> {
 }
 
 impl NlRouter {
-    /// A router over a new socket, and the handle of what comes to its groups.
+    /// A router over a new socket in these groups, and the handle of multicast.
     pub fn connect(
         family: NlFamily,
         port: Option<u32>,
@@ -51,7 +51,7 @@ impl NlRouter {
 }
 
 impl<L: Link + 'static> NlRouter<L> {
-    /// A router over a link, which nobody else receives from, and the handle of what comes to its groups.
+    /// A router over a link, from which nothing else may receive, and the handle of multicast.
     ///
     /// The link is a socket, a [`Recorder`](crate::recording::Recorder), a
     /// [`Recording`](crate::recording::Recording), or one of the caller's own. A client that takes any of them takes
@@ -105,7 +105,7 @@ impl<L: Link + 'static> NlRouter<L> {
         self.link.port()
     }
 
-    /// Joins these groups. Where one is refused, those before it are joined.
+    /// Joins these groups. If one is refused, those before it are joined.
     pub fn add_mcast_membership(&self, groups: Groups) -> Result<(), RouterError> {
         Ok(groups.as_groups().iter().try_for_each(|it| self.link.set_membership(*it, true))?)
     }
@@ -120,17 +120,17 @@ impl<L: Link + 'static> NlRouter<L> {
         Ok(self.link.memberships()?)
     }
 
-    /// Whether the kernel is to say in words why it refuses, and where. It is on at first.
+    /// Sets whether the kernel states in words why it refuses, and where. By default it does.
     pub fn enable_ext_ack(&self, enable: bool) -> Result<(), RouterError> {
         Ok(self.link.set_option(LinkOption::ExtAck, enable)?)
     }
 
-    /// Whether the kernel says so.
+    /// Whether the kernel states that.
     pub fn get_ext_ack_enabled(&self) -> Result<bool, RouterError> {
         Ok(self.link.option(LinkOption::ExtAck)?)
     }
 
-    /// Whether the kernel is to refuse a dump's request with fields that it does not use.
+    /// Sets whether the kernel refuses a dump's request with fields that it does not use.
     pub fn enable_strict_checking(&self, enable: bool) -> Result<(), RouterError> {
         Ok(self.link.set_option(LinkOption::StrictChecking, enable)?)
     }
@@ -145,15 +145,15 @@ impl<L: Link + 'static> NlRouter<L> {
         self.shared.state().set_number(number);
     }
 
-    /// Ends every wait at a handle that is under way, and each later one, with the system's `ECANCELED`; after it the
-    /// handle ends. What is there can be read all the same.
+    /// Ends every current wait at a handle, and each later one, with the system's `ECANCELED`; after it the handle
+    /// ends. What has arrived can still be read.
     pub fn stop(&self) {
         self.link.stop();
     }
 
-    /// Sends a request, and gives the handle of its replies.
+    /// Sends a request, and returns the handle of its replies.
     ///
-    /// A dump goes out when the one before has ended, and what comes of that waits at its handle.
+    /// A dump is sent when the one before has ended, whose replies wait at their handle.
     pub fn send<ST, SP, RT, RP>(
         &self,
         nl_type: ST,
@@ -169,8 +169,8 @@ impl<L: Link + 'static> NlRouter<L> {
         Ok(NlRouterReceiverHandle::new(&self.shared, handle, Of::Request(number)))
     }
 
-    /// Sends requests as one datagram, in their order, and gives the handle of each: the kernel does the first, answers
-    /// it, and goes on with the next.
+    /// Sends requests as one datagram, in their order, and returns the handle of each: the kernel performs the first,
+    /// answers it, and goes on with the next.
     ///
     /// A refusal sends none of them. One of them at most may be a dump, since the kernel runs one at a time; two are
     /// refused as `Msg`.
@@ -194,11 +194,11 @@ impl<L: Link + 'static> NlRouter<L> {
         Ok(sent.into_iter().map(of_each).collect())
     }
 
-    /// A list, to its end. It is asked for again, as a new request, while the kernel marks it as interrupted, is busy
-    /// with another dump, or something of it is lost: at most `times` times, and once at least. What the last one gave
-    /// is given, with the verdict on it, whichever that is. These flags are added to `DUMP`.
+    /// Requests a list, and repeats this, as a new request, while the kernel marks it as interrupted or is busy with
+    /// another dump, or a part of it is lost: at most `times` times, and once at least. Returns the last list, and the
+    /// verdict on it. These flags are added to `DUMP`.
     ///
-    /// Refused where nothing can be sent, and where the wait is over or memory runs out before the list has ended.
+    /// Refused if nothing can be sent, and if the wait ends or memory runs out before the list has ended.
     pub fn dump<ST, SP, RT, RP>(
         &self,
         nl_type: ST,
@@ -223,9 +223,9 @@ impl<L: Link + 'static> NlRouter<L> {
         Ok(dump)
     }
 
-    /// The handle of what the kernel sends to the socket's own port though no request has asked for it, as the packets
-    /// of a queue of netfilter. It is kept from now on until the handle is dropped; refused as `ClosedChannel` where
-    /// another handle has it.
+    /// The handle of messages that the kernel sends to the socket's own port without a request, as the packets of a
+    /// netfilter queue. They are kept from now on until the handle is dropped; refused as `ClosedChannel` if another
+    /// handle has them.
     pub fn unasked(&self) -> Result<NlRouterReceiverHandle<u16, Buffer>, RouterError> {
         if self.shared.state().keep_unasked() {
             Ok(NlRouterReceiverHandle::new(&self.shared, UNASKED, Of::Unasked))
@@ -235,7 +235,7 @@ impl<L: Link + 'static> NlRouter<L> {
     }
 }
 
-/// Whose what a handle reads is.
+/// The messages that a handle reads.
 #[derive(Clone, Copy, Debug, PartialEq, Eq)]
 enum Of {
     Groups,
@@ -243,16 +243,16 @@ enum Of {
     Request(u32),
 }
 
-/// What the replies to one request are read by, or what comes to the router's groups. As an iterator it gives the
-/// replies until the last; each step waits.
+/// The handle of the replies to one request, of multicast, or of messages without a request. As an iterator it returns
+/// the replies up to the last; each step waits.
 ///
-/// It may be dropped at any time. What still comes for its request is nobody's then, and is not kept.
+/// It may be dropped at any time. Messages that still arrive for its request are then dropped.
 #[derive(Debug)]
 pub struct NlRouterReceiverHandle<T, P> {
     shared: Arc<Shared>,
     handle: usize,
     whose: Of,
-    /// Wakes the one who waits at this handle.
+    /// Wakes the thread that waits at this handle.
     bell: Arc<Condvar>,
     is_stopped: bool,
     /// The verdict, once a message could not be read as the caller's types, which the library does not see.
@@ -266,8 +266,8 @@ impl<T, P> NlRouterReceiverHandle<T, P> {
         NlRouterReceiverHandle { shared, handle, whose, bell, is_stopped: false, spoilt: None, of: PhantomData }
     }
 
-    /// The next reply, read as these types; none after the last. A request that the kernel refuses is an error. Of
-    /// what comes to groups there is no last one.
+    /// The next reply, read as these types; none after the last. A request that the kernel refuses is an error.
+    /// Multicast has no last message.
     pub fn next_typed<TT: NlType, PP: FromBytes>(&mut self) -> Option<Result<Nlmsghdr<TT, PP>, RouterError>> {
         if self.is_stopped {
             return None;
@@ -293,10 +293,10 @@ impl<T, P> NlRouterReceiverHandle<T, P> {
         message.into_err().map(|answer| Err(RouterError::Nlmsgerr(answer)))
     }
 
-    /// What comes to groups next, read as these types, for who goes on whatever comes: a message that can't be read as
-    /// them is given as it came, and a loss by its name, each in its place. No message is the last.
+    /// The next notice from multicast, read as these types: a message that can't be read as them is returned as it
+    /// arrived, and a loss by its name, each in its place. More follow after any of them.
     ///
-    /// Refused where the wait is over or memory runs out, and by a handle of something else, as `ClosedChannel`.
+    /// Refused if the wait has ended or memory runs out, and as `ClosedChannel` if the handle is not that of multicast.
     pub fn listen<TT: NlType, PP: FromBytes>(&mut self) -> Result<Notice<TT, PP>, RouterError> {
         if self.whose != Of::Groups {
             return Err(RouterError::ClosedChannel);
@@ -314,11 +314,11 @@ impl<T, P> NlRouterReceiverHandle<T, P> {
         }
     }
 
-    /// How the answer to its request stands, by what was given of it: whether that is all. It is told as soon as it is
-    /// known, so that a list that is to be asked for again need not be read to its end. Of what comes to groups, and of
-    /// what was not asked for, it is always `Pending`.
+    /// The verdict on the answer to its request, by the replies that were returned: whether they are all. It is
+    /// returned as soon as it is known, so a list to request again need not be read to its end. That on multicast, and
+    /// on messages without a request, is always `Pending`.
     ///
-    /// An iterator that is to be asked afterwards is lent to the loop: `for reply in &mut replies`.
+    /// To call this after a loop, lend the iterator to the loop: `for reply in &mut replies`.
     pub fn verdict(&self) -> Verdict {
         match self.whose {
             Of::Request(_) => self.spoilt.unwrap_or_else(|| self.shared.state().verdict(self.handle).0),
@@ -326,18 +326,18 @@ impl<T, P> NlRouterReceiverHandle<T, P> {
         }
     }
 
-    /// Whether a message that was given says that the kernel did filter as it was asked to, by the flag
-    /// `NLM_F_DUMP_FILTERED`. One that cannot filter lists everything.
+    /// Whether a returned message states that the kernel filtered as requested, by the flag `NLM_F_DUMP_FILTERED`. A
+    /// kernel that cannot filter lists everything.
     pub fn is_filtered(&self) -> bool {
         matches!(self.whose, Of::Request(_)) && self.shared.state().verdict(self.handle).1
     }
 
-    /// The whole picture after a loss was reported: the messages of a dump that is complete, in the handle of what
-    /// comes to groups. What had come to groups before is dropped, since the picture has it; what comes from then on is
-    /// read as before, and is to be applied to the picture.
+    /// Requests the whole state after a loss of multicast: returns the messages of a complete dump. Messages for groups
+    /// from before each attempt are dropped, since the state includes them; later ones are read as before; apply them
+    /// to the state.
     ///
-    /// It is asked for at most so many times, as by [`NlRouter::dump`]; then the last error is given, and
-    /// `ClosedChannel` by a handle of something else.
+    /// The dump is repeated as by [`NlRouter::dump`], at most so many times; then the last error is returned. Refused
+    /// as `ClosedChannel` if the handle is not that of multicast.
     pub fn resync<ST, SP, RT, RP>(
         &mut self,
         nl_type: ST,
@@ -368,8 +368,8 @@ impl<T, P> NlRouterReceiverHandle<T, P> {
     }
 }
 
-/// A dump that is asked for once, read to its end. Refused where the wait is over or memory runs out, since it has not
-/// ended then.
+/// Requests a dump once, and reads it to its end. Refused if the wait ends or memory runs out, since it has not ended
+/// then.
 fn dump_once<RT, RP>(shared: &Arc<Shared>, kind: u16, flags: NlmF, body: &[u8]) -> Result<Dump<RT, RP>, RouterError>
 where
     RT: NlType,
@@ -394,7 +394,7 @@ where
     Ok(Dump { messages, verdict, is_filtered, error: first_error })
 }
 
-/// Whether an error says nothing of an answer, which may go on.
+/// Whether an answer may go on after this error.
 fn is_unended(error: &RouterError) -> bool {
     match error {
         RouterError::Socket(error) => is_end_of_wait(error),

@@ -40,7 +40,7 @@ fn kind_of<'r>(message: &LentMessage<'r>) -> Option<&'r str> {
     Some(kind.get_str().expect("a kind is a text"))
 }
 
-/// The names of the links, and how many are one of a pair.
+/// The names of the links, and the number of those that are one of a pair.
 fn names_and_pairs(router: &mut LendingRouter, links: &LendingHandle) -> (Vec<String>, usize) {
     let (mut names, mut pairs) = (Vec::new(), 0);
     while let Some(message) = router.lend_next(links).expect("a dump has no error") {
@@ -132,7 +132,7 @@ fn notifications_are_lent_and_losses_told() {
     });
 }
 
-/// More notifications come than the socket has room for: that is told once, and what comes afterwards is lent.
+/// More notifications arrive than the socket has room for: that is reported once, and later ones are lent.
 fn overrun(router: &mut LendingRouter, multicast: &LendingHandle) {
     let (other, _) = super::links::router(&[]);
     router.link().set_recv_buffer_size(1).expect("a size is set");

@@ -162,7 +162,7 @@ fn answer<T: NlType, P: FromBytesWithInput + Size + Drop>(
     Ok(dump)
 }
 
-/// Appends a line for each peer, as `peer aa..: received 1500, sent 92, allowed 192.0.2.0/24`.
+/// Appends a line for each peer, as `peer aa..: received 1500, sent 92, prefix 24`.
 fn peers(alloc: Global, lines: &mut Vec<String>, bytes: &[u8]) -> Result<(), Fail> {
     for peer in LentNlattrs::<u16>::new(bytes) {
         let attrs = peer?.get_attrs::<AttrType<u16>>();
