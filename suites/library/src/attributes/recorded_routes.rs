@@ -122,13 +122,13 @@ const R0281: Row = (
 );
 
 const R0396: Row = (
-    "route removed, told back",
+    "route removed, echoed",
     &["08000f00fe000000080001000a32000008000500c00002090800040003000000"],
     &[(15, 4, false), (1, 4, false), (5, 4, false), (4, 4, false)],
 );
 
 const R0402: Row = (
-    "rule removed, told back",
+    "rule removed, echoed",
     &["08000f00fe00000008000e00ffffffff05001500000000000800060009030000"],
     &[
         (15, 4, false),

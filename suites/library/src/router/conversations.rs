@@ -74,7 +74,7 @@ pub const SCRIPTS: [Script; 4] = [
     ),
     (
         // Group 5, that of IPv4 addresses. No request caused it: the message has number 0 and port 0.
-        "an address of the loopback, told to a group",
+        "an address of the loopback, sent to a group",
         12586,
         &[
             (Send(22, 0x300, ""), Sent(0, 12586)),

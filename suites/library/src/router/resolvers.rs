@@ -235,7 +235,7 @@ const LOOKUPS: [Row; 33] = [
         ),
     ),
     (
-        "no family is told",
+        "no family is found",
         Family("nlctrl"),
         (&[], 0),
         (Msg, "Generic netlink family nlctrl was not found"),

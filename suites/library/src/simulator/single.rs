@@ -41,7 +41,7 @@ const HEADERS: [(&str, [u8; 16], [bool; 4]); 4] = [
         [true, false, true, false],
     ),
     (
-        "0395, told back",
+        "0395, echoed",
         *b"\x24\0\0\0\x19\0\x0d\0\xc0\x04\0\0\0\0\0\0",
         [true, true, false, true],
     ),
