@@ -14,7 +14,7 @@ use Rattle.neli_program.specs.declared.entry.Entry.{Entry}
 use Rattle.neli_program.specs.declared.entry.Entry.TheVariants.{Port, Number, Request, Datagram, Fault, Read, Close}
 use Rattle.neli_program.specs.Plays.{Follows, HasPlayed, Performs}
 use Rattle.neli_program.specs.Replays.{Answers}
-use Rattle.neli_program.specs.Script.{AreCommands, IsTold, entries_of, entry_if, entries_from, entry_in, lines_in, port_of}
+use Rattle.neli_program.specs.Script.{AreCommands, IsCommandOf, entries_of, entry_if, entries_from, entry_in, lines_in, port_of}
 use Rattle.neli_program.specs.Script.{with_line, words_in}
 
 -- ---- what a router is told
@@ -30,10 +30,10 @@ all_zip_push R (a ∷ xs) [] x y all one = absurd all
 all_zip_push R (a ∷ xs) (b ∷ ys) x y all one = (all.0, all_zip_push R xs ys x y all.1 one)
 
 told_push : (entries : List Entry) (cs : List Told) (e : Entry) (told : Option Told) → AreCommands entries cs
-    → IsTold e told → AreCommands (entries ++ e ∷ []) (cs ++ option_to_list told)
+    → IsCommandOf e told → AreCommands (entries ++ e ∷ []) (cs ++ option_to_list told)
 told_push entries cs e told before one = (
   before.0 ++ told ∷ [],
-  all_zip_push IsTold entries before.0 e told before.1 one,
+  all_zip_push IsCommandOf entries before.0 e told before.1 one,
   ap (λ xs. xs ++ option_to_list told) before.2
       ∙ sym (flat_map-append option_to_list before.0 (told ∷ [])
       ∙ ap (λ xs. flat_map option_to_list before.0 ++ xs) (append-nil (option_to_list told))),
@@ -188,7 +188,7 @@ same_port (Close h ∷ said) e other = refl
 abbrev IsFollowed : Entry → ℕ → ℕ → Pending → Handles → ℕ → List ℕ → ℕ → ℕ → Pending → Handles → ℕ → List ℕ → Type 0
 IsFollowed e port next pending handles sent text port' next' pending' handles' sent' text' =
     (pid : ℕ) (commands : List Told) → HasPlayed pid port next pending handles sent text commands
-    → (told : Option Told) × IsTold e told × HasPlayed pid port' next' pending' handles' sent' text' (commands ++ option_to_list told)
+    → (told : Option Told) × IsCommandOf e told × HasPlayed pid port' next' pending' handles' sent' text' (commands ++ option_to_list told)
 
 played_other : (script : List ℕ) (first : Bool) (count port next : ℕ) (pending : Pending) (handles : Handles) (sent : ℕ) (text line : List ℕ) (e : Entry)
     (port' next' : ℕ) (pending' : Pending) (handles' : Handles) (sent' : ℕ) (text' : List ℕ) → IsPlayed script first count port next pending handles sent text → IsNext script count line
@@ -291,7 +291,7 @@ on_ok (Err e) P Q f p = p
 
 module _ (port next : ℕ) (pending : Pending) (handles : Handles) (sent : ℕ) (text : List ℕ) (port' next' : ℕ)
     (pending' : Pending) (handles' : Handles) (sent' : ℕ) (text' : List ℕ) where
-  followed : (e : Entry) (command : Told) → IsTold e (Some command)
+  followed : (e : Entry) (command : Told) → IsCommandOf e (Some command)
       → Performs command port next pending handles sent text port' next' pending' handles' sent' text'
       → Follows e port next pending handles sent text port' next' pending' handles' sent' text'
   followed (Port n) command told performs = absurd cc
@@ -304,9 +304,9 @@ module _ (port next : ℕ) (pending : Pending) (handles : Handles) (sent : ℕ) 
   followed (Read h) command told performs = λ pid commands played. (Some command, told, performs pid commands played)
   followed (Close h) command told performs = λ pid commands played. (Some command, told, performs pid commands played)
 
-  pub all_followed : {A E : Type 0} (r : Result A E) (e : Entry) (told : Option Told) (command : Told) → IsTold e told
+  pub all_followed : {A E : Type 0} (r : Result A E) (e : Entry) (told : Option Told) (command : Told) → IsCommandOf e told
       → told ≡ Some command
       → OnOk r (Performs command port next pending handles sent text port' next' pending' handles' sent' text')
       → OnOk r (Follows e port next pending handles sent text port' next' pending' handles' sent' text')
   all_followed r e told command says is performs =
-      on_ok r _ _ (followed e command (subst (IsTold e) is says)) performs
+      on_ok r _ _ (followed e command (subst (IsCommandOf e) is says)) performs

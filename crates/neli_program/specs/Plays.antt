@@ -7,7 +7,7 @@ use Rattle.neli_runs.specs.laws.Kept.{Handles, Pending}
 use Rattle.neli_program.specs.declared.entry.Entry.{Entry}
 use Rattle.neli_program.specs.declared.entry.Entry.TheVariants.{Port}
 use Rattle.neli_program.specs.Report.{RawOutcome, report, sends}
-use Rattle.neli_program.specs.Script.{IsTold}
+use Rattle.neli_program.specs.Script.{IsCommandOf}
 
 -- the number of requests that commands with these outcomes sent
 abbrev pub requests_in : List RawOutcome → ℕ
@@ -36,5 +36,5 @@ Follows (Port n) port next pending handles sent text port' next' pending' handle
     HasPlayed n port' next' pending' handles' sent' text' []
 Follows entry port next pending handles sent text port' next' pending' handles' sent' text' =
     (pid : ℕ) (commands : List (Command ℕ (List ℕ))) → HasPlayed pid port next pending handles sent text commands
-    → (told : Option (Command ℕ (List ℕ))) × IsTold entry told
+    → (told : Option (Command ℕ (List ℕ))) × IsCommandOf entry told
     × HasPlayed pid port' next' pending' handles' sent' text' (commands ++ option_to_list told)

@@ -128,27 +128,27 @@ abbrev pub named_flags : ℕ → NlmF
 named_flags bits = flags_of (bit_and bits (known_bits nlm_f_names))
 
 -- the command of an entry; none for a port
-abbrev pub IsTold : Entry → Option (Command ℕ (List ℕ)) → Type 0
-IsTold (Port n) told = told ≡ None
-IsTold (Number n) told = told ≡ Some (command.SetNextSeq n)
-IsTold (Request message_type flags bytes) told =
+abbrev pub IsCommandOf : Entry → Option (Command ℕ (List ℕ)) → Type 0
+IsCommandOf (Port n) told = told ≡ None
+IsCommandOf (Number n) told = told ≡ Some (command.SetNextSeq n)
+IsCommandOf (Request message_type flags bytes) told =
     told ≡ Some (command.Send message_type (named_flags flags) (payload.Payload bytes))
-IsTold (Datagram mask bytes) (Some (command.Datagram came groups)) =
+IsCommandOf (Datagram mask bytes) (Some (command.Datagram came groups)) =
     (came.items ≡ bytes) × (groups ≡ groups_of mask)
-IsTold (Datagram mask bytes) told = ⊥
-IsTold (Fault kind) told = told ≡ Some (command.Fault (socket.Io kind))
-IsTold (Read handle) told = told ≡ Some (command.Read handle)
-IsTold (Close handle) told = told ≡ Some (command.Close handle)
+IsCommandOf (Datagram mask bytes) told = ⊥
+IsCommandOf (Fault kind) told = told ≡ Some (command.Fault (socket.Io kind))
+IsCommandOf (Read handle) told = told ≡ Some (command.Read handle)
+IsCommandOf (Close handle) told = told ≡ Some (command.Close handle)
 
 -- making that command takes memory: for the groups of a datagram
-abbrev pub telling_takes_memory : Entry → Type 0
-telling_takes_memory (Datagram mask bytes) = mask ≢ 0
-telling_takes_memory entry = ⊥
+abbrev pub command_takes_memory : Entry → Type 0
+command_takes_memory (Datagram mask bytes) = mask ≢ 0
+command_takes_memory entry = ⊥
 
 -- the commands are those of the entries, in order
 abbrev pub AreCommands : List Entry → List (Command ℕ (List ℕ)) → Type 0
 AreCommands entries commands =
-    (told : List (Option (Command ℕ (List ℕ)))) × AllZip IsTold entries told
+    (told : List (Option (Command ℕ (List ℕ)))) × AllZip IsCommandOf entries told
     × (commands ≡ flat_map option_to_list told)
 
 -- a script with no bad line has this port and these commands

@@ -2,7 +2,7 @@
 
 ghost use Rattle.std.specs.Prelude.{◌≡◌, IfOk, OnErr};
 ghost use Rattle.neli_program.specs.declared.script.ScriptError.TheVariants as script;
-ghost use Rattle.neli_program.specs.Script.{IsTold, telling_takes_memory};
+ghost use Rattle.neli_program.specs.Script.{IsCommandOf, command_takes_memory};
 
 use crate::entry::Entry;
 use neli_attr::Buffer;
@@ -53,8 +53,8 @@ pub(crate) fn command_of(
     alloc: Global,
     entry: Entry,
 ) -> Result<Option<Command<u16, Buffer>>, NoMemory>
-    ensures told { IfOk result (IsTold entry) }
-    ensures memory { OnErr result (telling_takes_memory entry) }
+    ensures command { IfOk result (IsCommandOf entry) }
+    ensures memory { OnErr result (command_takes_memory entry) }
 {
     Ok(Some(match entry {
         Entry::Port(_) => return Ok(None),
