@@ -6,23 +6,22 @@
 //!
 //! The status reports whether the list is complete, by the router's verdict: 0; 2 if it changed meanwhile, 3 if the
 //! kernel refused it or ended it with an error, 4 if a part of it is missing or cannot be read; 1 if memory runs out.
-//! Standard error gets the cause, after the lines of the links that arrived.
+//! Standard error gets the cause, after the lines of the links that were read.
 #![tactic(auto)]
 
 ghost use Rattle.std.specs.Prelude.{◌≡◌, ◌↔◌, IsOk, length, take};
 
 use neli::Cursor;
-use neli::attr::Attribute;
 use neli::consts::Flags;
 use neli::consts::nl::NlmF;
 use neli::consts::rtnl::{Iff, Ifla, RtAddrFamily, Rtm};
 use neli::err::{DeError, NoMemory, RouterError};
 use neli::lent::LentMessage;
-use neli::nl::{NlPayload, Nlmsghdr};
-use neli::router::synchronous::{Log, NlRouter, NlRouterReceiverHandle, Reply, Verdict};
+use neli::nl::Nlmsghdr;
+use neli::router::synchronous::{Log, NlRouter, Verdict};
 use neli::rtnl::{HardwareAddress, Ifinfomsg, IfinfomsgBuilder, IfinfomsgBuilderError};
-use neli::utils::Groups;
-use std::alloc::Global;
+use neli::short::{AttrError, Client, Dump, Lookup};
+use std::alloc::{AllocError, Global};
 use std::io::{self, Read};
 use std::process::ExitCode;
 use thiserror::Error;
@@ -35,6 +34,10 @@ mod tests;
 enum Trouble {
     #[error("not readable: {0}")]
     Read(#[from] DeError),
+    #[error("not readable: {0}")]
+    Attribute(#[from] AttrError),
+    #[error("a link has no name or no MTU")]
+    Bare,
     #[error("no request: {0}")]
     Build(#[from] IfinfomsgBuilderError),
     #[error("no answer: {0}")]
@@ -49,13 +52,16 @@ enum Trouble {
     Lost,
     #[error("out of memory")]
     Memory(#[from] NoMemory),
+    #[error("out of memory for a line")]
+    Line(#[from] AllocError),
 }
 
 /// The line of a link: `3 veth0 mtu 1400 up 02:00:00:00:00:01`. Refused if it has no name or no MTU.
-fn line_of(alloc: Global, body: &Ifinfomsg) -> Result<String, DeError> {
-    let attrs = body.rtattrs().get_attr_handle();
-    let name: String = attrs.get_attr_payload_as_with_len(alloc, Ifla::Ifname)?;
-    let mtu: u32 = attrs.get_attr_payload_as(alloc, Ifla::Mtu)?;
+fn line_of(alloc: Global, body: &Ifinfomsg) -> Result<String, Trouble> {
+    let attrs = body.rtattrs();
+    let name = attrs.get_str(Ifla::Ifname)?.ok_or(Trouble::Bare)?;
+    let mtu: u32 = attrs.get(alloc, Ifla::Mtu)?.ok_or(Trouble::Bare)?;
+    let address: Option<HardwareAddress> = attrs.get_with_len(alloc, Ifla::Address)?;
     let flags = body.ifi_flags();
     let is_up = flags.contains(Iff::UP);
     let state = if is_up { "up" } else { "down" };
@@ -65,44 +71,24 @@ fn line_of(alloc: Global, body: &Ifinfomsg) -> Result<String, DeError> {
             line.push_str(word)?;
         }
     }
-    let Some(attr) = attrs.get_attribute(Ifla::Address) else {
-        return Ok(format!(in alloc; "{line} none")?);
-    };
-    let address: HardwareAddress = attr.get_payload_as_with_len(alloc)?;
-    Ok(format!(in alloc; "{line} {address}")?)
+    match address {
+        Some(address) => Ok(format!(in alloc; "{line} {address}")?),
+        None => Ok(format!(in alloc; "{line} none")?),
+    }
 }
 
-/// Appends the line of an item that is a link.
+/// Appends the line of a message that is a link; the end of the list is none.
 fn add_line(
     alloc: Global,
-    item: Result<Nlmsghdr<Rtm, Ifinfomsg>, RouterError<Rtm, Ifinfomsg>>,
+    message: &Nlmsghdr<Rtm, Ifinfomsg>,
     lines: &mut Vec<String>,
 ) -> Result<(), Trouble>
     ensures kept { take (length lines.old.items) lines.new.items ≡ lines.old.items }
 {
-    if let Some(body) = item?.get_payload() {
+    if let Some(body) = message.get_payload() {
         lines.push(line_of(alloc, body)?).map_err(NoMemory::from)?;
     }
     Ok(())
-}
-
-/// Appends the lines of the answers, up to their end. Each turn takes one of them, so the loop ends.
-fn read_answers(
-    alloc: Global,
-    router: &mut NlRouter,
-    handle: &mut NlRouterReceiverHandle<Rtm, Ifinfomsg>,
-    lines: &mut Vec<String>,
-) -> Result<(), Trouble>
-    ensures kept { take (length lines.old.items) lines.new.items ≡ lines.old.items }
-{
-    for _ in 0..u64::MAX {
-        match router.next_typed::<Rtm, Ifinfomsg, _, _>(alloc, handle)? {
-            Reply::Item(item) => add_line(alloc, item, lines)?,
-            Reply::End => return Ok(()),
-            Reply::Waits => break,
-        }
-    }
-    Err(Trouble::NoEnd)
 }
 
 /// Refused if an answer is incomplete.
@@ -121,7 +107,8 @@ fn want_all(verdict: Verdict) -> Result<(), Trouble>
 /// The status for this verdict.
 fn status_of(trouble: &Trouble) -> u8 {
     match trouble {
-        Trouble::Build(_) | Trouble::Memory(_) => 1,
+        Trouble::Build(_) | Trouble::Memory(_) | Trouble::Line(_) => 1,
+        Trouble::Answer(RouterError::Memory) => 1,
         Trouble::Interrupted => 2,
         Trouble::Failed(_) => 3,
         Trouble::Answer(RouterError::Nlmsgerr(_)) => 3,
@@ -140,13 +127,14 @@ fn read_links(alloc: Global, datagrams: &[u8], lines: &mut Vec<String>) -> Resul
     let all = IfinfomsgBuilder::default()
         .ifi_family(RtAddrFamily::Unspecified)
         .build(alloc)?;
-    let body = NlPayload::Payload(all);
-    let asked = router.send::<_, _, Rtm, Ifinfomsg>(alloc, Rtm::Getlink, NlmF::DUMP, body)?;
-    // A socket sends the request here, and gives the datagrams.
-    let (_request, mut handle) = asked;
-    router.processing_loop(datagrams, &Groups::empty(alloc))?;
-    read_answers(alloc, &mut router, &mut handle, lines)?;
-    want_all(router.verdict(&handle))
+    let mut request = router.request(alloc, Rtm::Getlink, NlmF::DUMP, all)?;
+    // A socket sends `request.bytes` here, and gives the datagrams.
+    router.receive_for(alloc, datagrams, &[])?;
+    let Dump { items, verdict } = router.read_dump(alloc, &mut request.handle)?;
+    for item in items {
+        add_line(alloc, &item?, lines)?;
+    }
+    want_all(verdict)
 }
 
 fn main(rt: HostRuntime) -> io::Result<ExitCode> {
