@@ -26,9 +26,6 @@ use std::io::{self, Read};
 use std::process::ExitCode;
 use thiserror::Error;
 
-#[cfg(test)]
-mod tests;
-
 /// Why the list of links is incomplete. Every refusal of the library becomes one by `?`.
 #[derive(Debug, Drop, Error)]
 enum Trouble {
