@@ -81,10 +81,12 @@ fn visited(alloc: Global, walk: Walk<'_, '_, '_>) -> Result<String, Fail> {
         let lists = visit.lists;
         match (visit.step, visit.content) {
             (
-                Some(Step {
-                    number: Some(number),
-                    ..
-                }),
+                Some(
+                    Step {
+                        number: Some(number),
+                        ..
+                    },
+                ),
                 Ok(_),
             ) => write!(text, "{lists}:{number} ")?,
             (None, Err(rest)) => {

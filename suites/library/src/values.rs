@@ -9,7 +9,8 @@
 //! worked out from words of 32 bits.
 //!
 //! - [`numbers`], [`texts`], [`lists`], [`octets`], [`nothing`]: the bytes and the readings of each kind of value.
-//!   [`padding`] and [`frames`]: the bytes around them. [`cursor`]: the place in bytes.
+//!   [`network_order`]: numbers whose highest byte comes first, and addresses. [`padding`] and [`frames`]: the bytes
+//!   around them. [`cursor`]: the place in bytes.
 //! - [`errors`]: the parts of refusals. [`printed`]: the text of every error, those of builders and of the reader of
 //!   messages too.
 //! - [`constants`], [`types`], [`wrappers`]: constants on the wire, and the traits and wrappers over the tables.
@@ -35,6 +36,7 @@ mod groups_out_of_memory;
 mod laws;
 mod lists;
 mod masks;
+mod network_order;
 mod nothing;
 mod numbers;
 mod octets;

@@ -1,6 +1,10 @@
-//! Shared parts of the tests: comparison, bytes as hexadecimal digits, written and printed values.
+//! Shared parts of the tests: comparison, bytes as hexadecimal digits, written and printed values, a bare request.
 
 use neli::ToBytes;
+use neli::consts::nl::NlmF;
+use neli::nl::NlPayload;
+use neli::router::synchronous::{NlRouter, NlRouterReceiverHandle};
+use neli::types::Buffer;
 use std::alloc::Global;
 use std::fmt::{Debug, Display};
 use std::process::Abort;
@@ -33,4 +37,17 @@ pub fn assert_written<V: ToBytes>(rt: &impl Abort, alloc: Global, value: &V, dig
 pub fn assert_prints<D: Display>(rt: &impl Abort, alloc: Global, value: &D, want: &str) {
     let text = value.to_string(alloc).expect(rt, want);
     assert_is(rt, text.as_str(), want);
+}
+
+/// The handle of a request without a body.
+pub fn asked<R: Abort>(
+    rt: &R,
+    alloc: Global,
+    router: &mut NlRouter,
+) -> NlRouterReceiverHandle<u16, Buffer> {
+    let body: NlPayload<u16, Buffer> = NlPayload::Empty;
+    match router.send(alloc, 16, NlmF::empty(), body) {
+        Ok((_request, handle)) => handle,
+        Err(_) => rt.panic("not sent"),
+    }
 }

@@ -1,7 +1,6 @@
 //! Payloads whose message exceeds 32 bits: a user's own type, which writes zeros and takes no memory itself.
 
-use super::store::asked;
-use super::support::{assert_is, assert_prints};
+use super::support::{asked, assert_is, assert_prints};
 use neli::consts::nl::NlmF;
 use neli::err::{RouterError, SerError};
 use neli::nl::{NlPayload, Nlmsghdr, NlmsghdrBuilder};

@@ -17,7 +17,7 @@ const THREE: &str =
 const NEWS: &str = "10000000100000000000000000000000";
 
 /// The handle of a request without a body.
-pub fn asked<R: Abort>(
+fn asked<R: Abort>(
     rt: &R,
     alloc: Global,
     router: &mut NlRouter,
