@@ -36,10 +36,10 @@ pub mod laws {
 }
 
 /// Bodies and payloads that the Rust crate lacks: next hops, the multicast groups of bridges, the statistics of links,
-/// the counters and the handles of queueing disciplines.
+/// neighbour tables, the counters and the handles of queueing disciplines.
 pub mod linux {
     pub use neli_rtnl_linux::{
         BrPortMsg, BrPortMsgHeader, GnetStatsBasic, GnetStatsQueue, IfStatsMsg, IfStatsMsgHeader,
-        Nhmsg, NhmsgHeader, TcHandle, laws,
+        Ndtmsg, NdtmsgHeader, Nhmsg, NhmsgHeader, TcHandle, laws,
     };
 }

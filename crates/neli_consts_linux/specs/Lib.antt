@@ -12,6 +12,7 @@ pub mod IflaStats
 pub mod IflaVf
 pub mod IflaVxlan
 pub mod Mdba
+pub mod Ndta
 pub mod NetlinkAttributeType
 pub mod NexthopGrpType
 pub mod Nha

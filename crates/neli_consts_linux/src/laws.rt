@@ -4,7 +4,7 @@ ghost use Rattle.neli_wire.specs.Constants.{IsEquality};
 
 use crate::{
     CtrlAttr, CtrlAttrOp, CtrlAttrPolicy, CtrlCmd, IflaBond, IflaBondAdInfo, IflaBondSlave, IflaBr,
-    IflaBrport, IflaMacvlan, IflaStats, IflaVf, IflaVxlan, Mdba, NetlinkAttributeType,
+    IflaBrport, IflaMacvlan, IflaStats, IflaVf, IflaVxlan, Mdba, Ndta, NetlinkAttributeType,
     NexthopGrpType, Nha, NhaGroupStats, NhaGroupStatsEntry, NhaResBucket, NhaResGroup,
     NlPolicyTypeAttr, Rtax, Rtnlgrp, TcaStats,
 };
@@ -37,4 +37,5 @@ pub fn equality()
     ensures ifla_stats { IsEquality ⟦<IflaStats as PartialEq>⟧.eq }
     ensures tca_stats { IsEquality ⟦<TcaStats as PartialEq>⟧.eq }
     ensures mdba { IsEquality ⟦<Mdba as PartialEq>⟧.eq }
+    ensures ndta { IsEquality ⟦<Ndta as PartialEq>⟧.eq }
 {}

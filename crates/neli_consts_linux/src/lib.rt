@@ -22,6 +22,7 @@
 //! - `messages`: types of messages of routing
 //! - `metrics`: metrics of routes
 //! - `multicast`: multicast groups of bridges
+//! - `neighbours`: neighbour tables
 //! - `next_hops`: next hops of routes
 //! - `policies`: the kernel's policies for the attributes that it takes
 //! - `statistics`: statistics of links and of queueing disciplines
@@ -40,6 +41,7 @@ mod macvlans;
 mod messages;
 mod metrics;
 mod multicast;
+mod neighbours;
 mod next_hops;
 mod policies;
 mod statistics;
@@ -63,6 +65,7 @@ pub use messages::{
 };
 pub use metrics::Rtax;
 pub use multicast::Mdba;
+pub use neighbours::Ndta;
 pub use next_hops::{
     NexthopGrpType, Nha, NhaGroupStats, NhaGroupStatsEntry, NhaResBucket, NhaResGroup,
 };

@@ -2,6 +2,7 @@ pub mod BrPortMsg
 pub mod GnetStatsBasic
 pub mod GnetStatsQueue
 pub mod IfStatsMsg
+pub mod Ndtmsg
 pub mod Nhmsg
 pub mod TcHandle
 pub mod laws

@@ -10,12 +10,14 @@ ghost use Rattle.neli_body.specs.Bodies.{body_of, body_takes_memory, body_wire};
 ghost use Rattle.neli_body.specs.RoundTrips.{ArePlainAttrs, ReadsBack, ReadsBackWhole};
 ghost use Rattle.neli_consts_linux.specs.IflaStats.{ifla_stats_number, ifla_stats_of};
 ghost use Rattle.neli_consts_linux.specs.Mdba.{mdba_number, mdba_of};
+ghost use Rattle.neli_consts_linux.specs.Ndta.{ndta_number, ndta_of};
 ghost use Rattle.neli_consts_linux.specs.Nha.{nha_number, nha_of};
 ghost use Rattle.neli_rtnl_linux.specs.declared.gnet_stats_basic.GnetStatsBasic.{GnetStatsBasic};
 ghost use Rattle.neli_rtnl_linux.specs.declared.gnet_stats_queue.GnetStatsQueue.{GnetStatsQueue};
 ghost use Rattle.neli_rtnl_linux.specs.BrPortMsg.{IsPlainBrPortMsg, BrPortMsg, br_port_msg_bytes, br_port_msg_header};
 ghost use Rattle.neli_rtnl_linux.specs.IfStatsMsg.{IsPlainIfStatsMsg, IfStatsMsg};
 ghost use Rattle.neli_rtnl_linux.specs.IfStatsMsg.{if_stats_msg_bytes, if_stats_msg_header};
+ghost use Rattle.neli_rtnl_linux.specs.Ndtmsg.{IsPlainNdtmsg, Ndtmsg, ndtmsg_bytes, ndtmsg_header};
 ghost use Rattle.neli_rtnl_linux.specs.Nhmsg.{IsPlainNhmsg, Nhmsg, nhmsg_bytes, nhmsg_header};
 ghost use Rattle.neli_rtnl_linux.specs.GnetStatsBasic.{IsPlainGnetStatsBasic, gnet_stats_basic_bytes};
 ghost use Rattle.neli_rtnl_linux.specs.GnetStatsBasic.{gnet_stats_basic_header};
@@ -25,12 +27,13 @@ ghost use Rattle.neli_rtnl_linux.specs.TcHandle.{handle_text};
 
 use crate::br_port_msg::BrPortMsgHeader;
 use crate::if_stats_msg::IfStatsMsgHeader;
+use crate::ndtmsg::NdtmsgHeader;
 use crate::nhmsg::NhmsgHeader;
 use neli_attr::{Buffer, RtBuffer, TryClone};
 use neli_body::FixedHeader;
 use neli_body::laws::{attributes_are_read_back, body_is_read_back};
 use neli_consts_attrs::RtaType;
-use neli_consts_linux::{IflaStats, Mdba, Nha};
+use neli_consts_linux::{IflaStats, Mdba, Ndta, Nha};
 use neli_wire::{Constant, FromBytes, FromBytesWithInput, Header, Size, ToBytes};
 use std::fmt;
 
@@ -88,6 +91,24 @@ pub fn if_stats_msg_is_read_back()
     attributes_are_read_back::<IfStatsMsgHeader, IflaStats>();
 }
 
+/// A neighbour table is read back from its wire bytes, if each field is read from its number; with its attributes, if
+/// each one's length is that of its header and payload, and its type is read from its number. Bytes that are read as
+/// the fields are written back as the same bytes.
+pub fn ndtmsg_is_read_back()
+    ensures back { (m : Ndtmsg) → IsPlainNdtmsg m.header
+        → ReadsBack 4 ndtmsg_bytes ndtmsg_header (attrs_of ndta_of) m.header
+        (attrs_wire ndta_number m.rtattrs) }
+    ensures whole { (m : Ndtmsg) → IsPlainNdtmsg m.header
+        → ArePlainAttrs ndta_number ndta_of m.rtattrs
+        → ReadsBackWhole 4 ndtmsg_bytes ndtmsg_header ndta_number ndta_of
+        m.header m.rtattrs }
+    ensures bytes { (s : List ℕ) → length s ≡ 4 → AreBytes s
+        → ndtmsg_bytes (ndtmsg_header s) ≡ s }
+{
+    body_is_read_back::<NdtmsgHeader, RtBuffer<Ndta, Buffer>>();
+    attributes_are_read_back::<NdtmsgHeader, Ndta>();
+}
+
 /// Counters of queues are read back, if each field has a number of its size. Bytes that are read as them are written
 /// back as the same bytes.
 pub fn counters_are_read_back()
@@ -106,6 +127,7 @@ pub fn equality()
     ensures nhmsg { IsEquality ⟦<crate::Nhmsg as PartialEq>⟧.eq }
     ensures br_port_msg { IsEquality ⟦<crate::BrPortMsg as PartialEq>⟧.eq }
     ensures if_stats_msg { IsEquality ⟦<crate::IfStatsMsg as PartialEq>⟧.eq }
+    ensures ndtmsg { IsEquality ⟦<crate::Ndtmsg as PartialEq>⟧.eq }
     ensures gnet_stats_basic { IsEquality ⟦<crate::GnetStatsBasic as PartialEq>⟧.eq }
     ensures gnet_stats_queue { IsEquality ⟦<crate::GnetStatsQueue as PartialEq>⟧.eq }
     ensures tc_handle { IsEquality ⟦<crate::TcHandle as PartialEq>⟧.eq }
@@ -119,6 +141,7 @@ pub fn attributes_begin_after_the_fields()
     ensures nhmsg { ⟦<crate::Nhmsg as Header>⟧.header ≡ 8 }
     ensures br_port_msg { ⟦<crate::BrPortMsg as Header>⟧.header ≡ 8 }
     ensures if_stats_msg { ⟦<crate::IfStatsMsg as Header>⟧.header ≡ 12 }
+    ensures ndtmsg { ⟦<crate::Ndtmsg as Header>⟧.header ≡ 4 }
 {}
 
 /// A body is written as the bytes of its fields and those of its attributes.
@@ -129,6 +152,8 @@ pub fn bodies_are_written()
         (λ m. body_wire (br_port_msg_bytes m.header) (attrs_wire mdba_number m.rtattrs)) }
     ensures if_stats_msg { AreSame ⟦<crate::IfStatsMsg as ToBytes>⟧.wire
         (λ m. body_wire (if_stats_msg_bytes m.header) (attrs_wire ifla_stats_number m.rtattrs)) }
+    ensures ndtmsg { AreSame ⟦<crate::Ndtmsg as ToBytes>⟧.wire
+        (λ m. body_wire (ndtmsg_bytes m.header) (attrs_wire ndta_number m.rtattrs)) }
 {}
 
 /// A body is read as its fields and as the bytes after them are read.
@@ -139,6 +164,8 @@ pub fn bodies_are_read()
         (body_of 8 br_port_msg_header (attrs_of mdba_of)) }
     ensures if_stats_msg { AreSame ⟦<crate::IfStatsMsg as FromBytesWithInput>⟧.read
         (body_of 12 if_stats_msg_header (attrs_of ifla_stats_of)) }
+    ensures ndtmsg { AreSame ⟦<crate::Ndtmsg as FromBytesWithInput>⟧.read
+        (body_of 4 ndtmsg_header (attrs_of ndta_of)) }
 {}
 
 /// Counters of queues are written and read as their fields. A read takes no memory.
@@ -169,6 +196,7 @@ pub fn headers_are_plain_by_their_fields()
     ensures nhmsg { OnlyWhere IsPlainNhmsg ⟦<NhmsgHeader as FixedHeader>⟧.IsPlain }
     ensures br_port_msg { OnlyWhere IsPlainBrPortMsg ⟦<BrPortMsgHeader as FixedHeader>⟧.IsPlain }
     ensures if_stats_msg { OnlyWhere IsPlainIfStatsMsg ⟦<IfStatsMsgHeader as FixedHeader>⟧.IsPlain }
+    ensures ndtmsg { OnlyWhere IsPlainNdtmsg ⟦<NdtmsgHeader as FixedHeader>⟧.IsPlain }
     ensures gnet_stats_basic { OnlyWhere IsPlainGnetStatsBasic ⟦<crate::GnetStatsBasic as FixedHeader>⟧.IsPlain }
     ensures gnet_stats_queue { OnlyWhere IsPlainGnetStatsQueue ⟦<crate::GnetStatsQueue as FixedHeader>⟧.IsPlain }
 {}

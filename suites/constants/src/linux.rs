@@ -3,7 +3,7 @@
 use crate::rows::write_rows;
 use neli_consts_linux::{
     CtrlAttr, CtrlAttrOp, CtrlAttrPolicy, CtrlCmd, IflaBond, IflaBondAdInfo, IflaBondSlave, IflaBr,
-    IflaBrport, IflaMacvlan, IflaStats, IflaVf, IflaVxlan, Mdba, NetlinkAttributeType,
+    IflaBrport, IflaMacvlan, IflaStats, IflaVf, IflaVxlan, Mdba, Ndta, NetlinkAttributeType,
     NexthopGrpType, Nha, NhaGroupStats, NhaGroupStatsEntry, NhaResBucket, NhaResGroup,
     NlPolicyTypeAttr, Rtax, Rtnlgrp, TcaStats,
 };
@@ -121,7 +121,8 @@ fn write_statistics(out: &mut impl Write) -> io::Result<()> {
         0..=u16::MAX,
         TcaStats::is_unrecognized,
     )?;
-    write_rows(out, "linux::Mdba", 0..=u16::MAX, Mdba::is_unrecognized)
+    write_rows(out, "linux::Mdba", 0..=u16::MAX, Mdba::is_unrecognized)?;
+    write_rows(out, "linux::Ndta", 0..=u16::MAX, Ndta::is_unrecognized)
 }
 
 /// The controller.

@@ -67,6 +67,7 @@ fn laws_of_newer_bodies_are_called() {
     linux::nhmsg_is_read_back();
     linux::br_port_msg_is_read_back();
     linux::if_stats_msg_is_read_back();
+    linux::ndtmsg_is_read_back();
     linux::counters_are_read_back();
     linux::equality();
     linux::attributes_begin_after_the_fields();

@@ -1,13 +1,14 @@
 //! Next hops, the multicast groups of bridges and the statistics of links: recorded, with the fields that libmnl's
-//! lengths and the kernel's structs give, and made.
+//! lengths and the kernel's structs give, and made. Neighbour tables, by hand from `linux/neighbour.h`.
 
 use super::support::{Row, assert_is_at, assert_written, bytes_of, read_whole, recorded};
 use neli::consts::Constant;
-use neli::consts::linux::{AF_BRIDGE, IflaStats, Mdba, Nha};
+use neli::consts::linux::{AF_BRIDGE, IflaStats, Mdba, Ndta, Nha};
 use neli::consts::rtnl::{RtAddrFamily, RtScope, Rtprot};
 use neli::err::DeError;
 use neli::rtnl::linux::{
-    BrPortMsg, BrPortMsgHeader, IfStatsMsg, IfStatsMsgHeader, Nhmsg, NhmsgHeader,
+    BrPortMsg, BrPortMsgHeader, IfStatsMsg, IfStatsMsgHeader, Ndtmsg, NdtmsgHeader, Nhmsg,
+    NhmsgHeader,
 };
 use neli::short::{Lookup, Put};
 use neli::types::RtBuffer;
@@ -87,6 +88,41 @@ fn statistics_of_links(rt: HostRuntime) {
     }
 }
 
+/// Neighbour tables: a request for all, a first threshold that is set, and the beginning of an answer.
+const NEIGHBOUR_TABLES: [Row<(u8, Option<&str>, Option<u32>)>; 3] = [
+    ("all", "00000000", (0, None, None), 0),
+    (
+        "a threshold",
+        "020000000e0001006172705f63616368650000000800020000010000",
+        (2, Some("arp_cache"), Some(256)),
+        2,
+    ),
+    (
+        "an answer",
+        "0a000000100001006e646973635f6361636865000c0008003075000000000000080002008000000008000300\
+        000200000800040000040000",
+        (10, Some("ndisc_cache"), Some(128)),
+        5,
+    ),
+];
+
+#[test]
+fn neighbour_tables(rt: HostRuntime) {
+    let alloc = rt.alloc();
+    assert_is_at(&rt, "header", Ndtmsg::header_size(), 4);
+    for (label, digits, fields, attributes) in NEIGHBOUR_TABLES {
+        let m: Ndtmsg = recorded(&rt, alloc, label, digits);
+        let attrs = m.rtattrs();
+        let name = attrs.get_str(Ndta::Name).expect(&rt, label);
+        let threshold = attrs.get::<u32>(alloc, Ndta::Thresh1).expect(&rt, label);
+        let got = (m.header().ndtm_family.to_wire(), name, threshold);
+        assert_is_at(&rt, label, got, fields);
+        assert_is_at(&rt, label, attrs.len(), attributes);
+        let interval = attrs.get::<u64>(alloc, Ndta::GcInterval).expect(&rt, label);
+        assert_is_at(&rt, label, interval == Some(30000), attributes == 5);
+    }
+}
+
 // What is made is written as these bytes, with zeros where bytes have no meaning; and so is a copy, which is equal.
 #[test]
 fn made(rt: HostRuntime) -> Result<(), Fail> {
@@ -112,6 +148,17 @@ fn made(rt: HostRuntime) -> Result<(), Fail> {
     let one = IfStatsMsg::new(fields, RtBuffer::new(alloc));
     let bytes = bytes_of(&rt, alloc, "statistics", "000000000300000001020000");
     assert_written(&rt, alloc, "statistics", &one, &bytes);
+    let mut attrs = RtBuffer::new(alloc);
+    attrs.put(alloc, Ndta::Name, "arp_cache")?;
+    attrs.put(alloc, Ndta::Thresh1, 256u32)?;
+    let table = Ndtmsg::new(NdtmsgHeader::new(RtAddrFamily::Inet), attrs);
+    let bytes = bytes_of(
+        &rt,
+        alloc,
+        "table",
+        "020000000e0001006172705f63616368650000000800020000010000",
+    );
+    assert_written(&rt, alloc, "table", &table, &bytes);
     Ok(())
 }
 
@@ -121,6 +168,7 @@ fn reserved_bytes_are_kept(rt: HostRuntime) {
     let alloc = rt.alloc();
     let _hop: Nhmsg = recorded(&rt, alloc, "hop", "020000ff00000000");
     let _groups: BrPortMsg = recorded(&rt, alloc, "groups", "07aabbcc05000000");
+    let _table: Ndtmsg = recorded(&rt, alloc, "table", "02aabbcc");
     let one: IfStatsMsg = recorded(&rt, alloc, "statistics", "00aabbcc0300000001000000");
     let again = read_whole::<IfStatsMsg>(
         &rt,
@@ -142,4 +190,6 @@ fn cut(rt: HostRuntime) {
     assert!(rt; matches!(read, Err(DeError::InvalidInput(7))));
     let read = BrPortMsg::from_bytes_with_input(rt.alloc(), &mut Cursor::new(&[0; 7]), 7);
     assert!(rt; matches!(read, Err(DeError::InvalidInput(7))));
+    let read = Ndtmsg::from_bytes_with_input(rt.alloc(), &mut Cursor::new(&[0; 3]), 3);
+    assert!(rt; matches!(read, Err(DeError::InvalidInput(3))));
 }

@@ -50,6 +50,8 @@ use Rattle.neli_consts_linux.specs.contracts.statistics.TcaStats.{enum as tca_st
 use Rattle.neli_consts_linux.specs.contracts.statistics.TcaStatsEq.TheImpl.Laws.{laws-law as tca_stats-laws}
 use Rattle.neli_consts_linux.specs.contracts.multicast.Mdba.{enum as mdba}
 use Rattle.neli_consts_linux.specs.contracts.multicast.MdbaEq.TheImpl.Laws.{laws-law as mdba-laws}
+use Rattle.neli_consts_linux.specs.contracts.neighbours.Ndta.{enum as ndta}
+use Rattle.neli_consts_linux.specs.contracts.neighbours.NdtaEq.TheImpl.Laws.{laws-law as ndta-laws}
 use Rattle.neli_consts_linux.proofs.laws.equality.Goals as goal
 
 pub returns-clause-rtnlgrp : goal.returns-clause-rtnlgrp
@@ -139,3 +141,6 @@ returns-clause-tca_stats c = derived-equality tca_stats _ tca_stats-laws (λ x y
 
 pub returns-clause-mdba : goal.returns-clause-mdba
 returns-clause-mdba c = derived-equality mdba _ mdba-laws (λ x y e i. (eqb-true x.0 y.0 e i, tt), tt)
+
+pub returns-clause-ndta : goal.returns-clause-ndta
+returns-clause-ndta c = derived-equality ndta _ ndta-laws (λ x y e i. (eqb-true x.0 y.0 e i, tt), tt)

@@ -3,6 +3,7 @@ use Rattle.neli_attr.specs.laws.Equality.{bytes-equality, pair-equality, parts-e
 use Rattle.neli_rtnl_linux.specs.declared.nhmsg.NhmsgHeader.{NhmsgHeader}
 use Rattle.neli_rtnl_linux.specs.declared.br_port_msg.BrPortMsgHeader.{BrPortMsgHeader}
 use Rattle.neli_rtnl_linux.specs.declared.if_stats_msg.IfStatsMsgHeader.{IfStatsMsgHeader}
+use Rattle.neli_rtnl_linux.specs.declared.ndtmsg.NdtmsgHeader.{NdtmsgHeader}
 use Rattle.neli_rtnl_linux.specs.declared.gnet_stats_basic.GnetStatsBasic.{GnetStatsBasic}
 use Rattle.neli_rtnl_linux.specs.declared.gnet_stats_queue.GnetStatsQueue.{GnetStatsQueue}
 use Rattle.neli_rtnl_linux.specs.declared.tc_handle.TcHandle.{TcHandle}
@@ -52,6 +53,18 @@ returns-clause-if_stats_msg c =
     (pair-equality c.equality.ensures.rt_addr_family (pair-equality bytes-equality (pair-equality bytes-equality
     (pair-equality bytes-equality bytes-equality)))) in
     body-equality header c.equality-2.ensures.ifla_stats
+
+pub returns-clause-ndtmsg : goal.returns-clause-ndtmsg
+returns-clause-ndtmsg c =
+    let header =
+    parts-equality (λ (h : NdtmsgHeader). (h.ndtm_family, (h.pad1, h.pad2)))
+    (λ t. record {
+      ndtm_family = t.0;
+      pad1 = t.1.0;
+      pad2 = t.1.1;
+    }) (λ h. refl)
+    (pair-equality c.equality.ensures.rt_addr_family (pair-equality bytes-equality bytes-equality)) in
+    body-equality header c.equality-2.ensures.ndta
 
 pub returns-clause-gnet_stats_basic : goal.returns-clause-gnet_stats_basic
 returns-clause-gnet_stats_basic c =
