@@ -1,15 +1,18 @@
 //! The attributes of an extended acknowledgement, made by the words by which they are read.
 
-ghost use Rattle.std.specs.Prelude.{◌≡◌, ◌++◌, Some, None, OnOk, IfErr, IfOk};
+ghost use Rattle.std.specs.Prelude.{◌≡◌, ◌++◌, Some, None, OnOk, IfErr, IfOk, IsOk};
 ghost use Rattle.std.specs.Option.{option_map};
 ghost use Rattle.neli_consts.specs.declared.nlmsg.NlmsgerrAttr.TheVariants as kind;
-ghost use Rattle.neli_short.specs.ExtAcks.{built_ext_ack, given, given_wire, number_bytes, text_bytes};
+ghost use Rattle.neli_attr.specs.Attributes.{attribute_payload};
+ghost use Rattle.neli_short.specs.ExtAcks.{RefusesBuilt, built_ext_ack, given, given_policy, given_wire};
+ghost use Rattle.neli_short.specs.ExtAcks.{number_bytes, policy_wire, text_bytes};
 ghost use Rattle.neli_short.specs.Made.{RefusesMade};
 
 use crate::Put;
+use crate::make::put_list;
 use neli_attr::{Buffer, GenlBuffer};
 use neli_consts::NlmsgerrAttr;
-use neli_consts_linux::{NLMSGERR_ATTR_MISS_NEST, NLMSGERR_ATTR_MISS_TYPE};
+use neli_consts_linux::{NLMSGERR_ATTR_MISS_NEST, NLMSGERR_ATTR_MISS_TYPE, NlPolicyTypeAttr};
 use neli_wire::SerError;
 use std::alloc::Global;
 
@@ -18,6 +21,7 @@ use std::alloc::Global;
 pub struct ExtAckBuilder<'a> {
     text: Option<&'a str>,
     offset: Option<u32>,
+    policy: Option<GenlBuffer<NlPolicyTypeAttr, Buffer>>,
     missing_type: Option<u32>,
     missing_nest: Option<u32>,
 }
@@ -26,6 +30,7 @@ impl<'a> Default for ExtAckBuilder<'a> {
     ghost is_default = { λ b. b ≡ record {
       text = None;
       offset = None;
+      policy = None;
       missing_type = None;
       missing_nest = None;
     } };
@@ -34,6 +39,7 @@ impl<'a> Default for ExtAckBuilder<'a> {
         ExtAckBuilder {
             text: None,
             offset: None,
+            policy: None,
             missing_type: None,
             missing_nest: None,
         }
@@ -57,6 +63,15 @@ impl<'a> ExtAckBuilder<'a> {
         self
     }
 
+    /// What the kernel would have taken there (`NLMSGERR_ATTR_POLICY`): the attributes of a policy. They become the
+    /// payload of one attribute, which is marked as nested.
+    pub fn policy(mut self, attrs: GenlBuffer<NlPolicyTypeAttr, Buffer>) -> Self
+        ensures { result ≡ record self.entry { policy = Some attrs } }
+    {
+        self.policy = Some(attrs);
+        self
+    }
+
     /// The number of an attribute that is missing.
     pub fn missing_type(mut self, value: u32) -> Self
         ensures { result ≡ record self.entry { missing_type = Some value } }
@@ -75,15 +90,16 @@ impl<'a> ExtAckBuilder<'a> {
 
     /// The attributes of what was given, in the order of their numbers.
     ///
-    /// Refused with a `SerError::Msg` where a text with its zero is longer than 65531 bytes, or where memory runs out.
+    /// Refused with a `SerError::Msg` where a text with its zero is longer than 65531 bytes, or then where the wire
+    /// bytes of a policy's attributes are; or where memory runs out.
     pub fn build(self, alloc: Global) -> Result<GenlBuffer<NlmsgerrAttr, Buffer>, SerError>
         ensures built { IfOk result (λ attrs. attrs ≡ built_ext_ack self.entry) }
-        ensures refused { IfErr result
-            (RefusesMade (given_wire (text_bytes (option_map (λ t. t.now) self.entry.text)))) }
+        ensures refused { IfErr result (RefusesBuilt self.entry) }
     {
         let mut attrs = GenlBuffer::new(alloc);
         put_text(alloc, &mut attrs, self.text)?;
         put_number(alloc, &mut attrs, NlmsgerrAttr::Offset, self.offset)?;
+        put_policy(alloc, &mut attrs, self.policy)?;
         put_number(
             alloc,
             &mut attrs,
@@ -108,11 +124,28 @@ fn put_text(
 ) -> Result<(), SerError>
     ensures put { OnOk result (attrs.new ≡ attrs.old
         ++ given kind.Msg (text_bytes (option_map (λ t. t.now) text.entry))) }
+    ensures fits { OnOk result
+        (IsOk (attribute_payload (given_wire (text_bytes (option_map (λ t. t.now) text.entry))))) }
     ensures refused { IfErr result
         (RefusesMade (given_wire (text_bytes (option_map (λ t. t.now) text.entry)))) }
 {
     match text {
         Some(text) => attrs.put(alloc, NlmsgerrAttr::Msg, text),
+        None => Ok(()),
+    }
+}
+
+/// Appends the policy, where one was given.
+fn put_policy(
+    alloc: Global,
+    attrs: &mut GenlBuffer<NlmsgerrAttr, Buffer>,
+    policy: Option<GenlBuffer<NlPolicyTypeAttr, Buffer>>,
+) -> Result<(), SerError>
+    ensures put { OnOk result (attrs.new ≡ attrs.old ++ given_policy policy) }
+    ensures refused { IfErr result (RefusesMade (policy_wire policy)) }
+{
+    match policy {
+        Some(policy) => put_list(attrs, alloc, NlmsgerrAttr::Policy, policy),
         None => Ok(()),
     }
 }

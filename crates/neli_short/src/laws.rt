@@ -55,6 +55,7 @@ pub fn refusals_are_their_parts()
     ensures builder { OnlyWhere ⟦<ExtAckBuilder<'static> as Default>⟧.is_default (λ b. b ≡ record {
       text = None;
       offset = None;
+      policy = None;
       missing_type = None;
       missing_nest = None;
     }) }

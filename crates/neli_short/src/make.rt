@@ -167,7 +167,7 @@ pub trait Put<A: Made>: AttrSlice<A> {
 }
 
 /// Appends the attribute of this type, whose payload is this list.
-fn put_list<A: Made, B: ToBytes + Drop>(
+pub(crate) fn put_list<A: Made, B: ToBytes + Drop>(
     list: &mut FrameList<A>,
     alloc: Global,
     kind: A::Kind,

@@ -4,11 +4,12 @@
 use super::kinds::{CAPPED, ERROR};
 use super::support::{assert_is, raw_message};
 use neli::consts::linux::NlPolicyTypeAttr;
+use neli::consts::nl::NlmsgerrAttr;
 use neli::err::{DeError, Nlmsgerr, SerError};
 use neli::nl::Nlmsghdr;
 use neli::rtnl::Ifinfomsg;
-use neli::short::{ExtAck, ExtAckBuilder, LentLookup, ReadBody};
-use neli::types::Buffer;
+use neli::short::{ExtAck, ExtAckBuilder, LentLookup, Put, ReadBody};
+use neli::types::{Buffer, GenlBuffer};
 use neli::{Cursor, FromBytes, FromBytesWithInput, ToBytes};
 use std::alloc::Global;
 use std::fmt::Debug;
@@ -129,15 +130,28 @@ fn a_policy_says(rt: HostRuntime) {
     assert_is(&rt, most, Some(4094));
 }
 
-#[test]
-fn what_is_built_is_said_or_out_of_memory(rt: HostRuntime) {
-    let built = ExtAckBuilder::default()
+/// That policy, and what it says: its type, and the largest value.
+fn policy_of_a_number(alloc: Global) -> Result<GenlBuffer<NlPolicyTypeAttr, Buffer>, SerError> {
+    let mut policy = GenlBuffer::new(alloc);
+    policy.put(alloc, NlPolicyTypeAttr::Type, 3u32)?;
+    policy.put(alloc, NlPolicyTypeAttr::MaxValueU, 4094u64)?;
+    Ok(policy)
+}
+
+/// Attributes of all kinds.
+fn built(alloc: Global) -> Result<GenlBuffer<NlmsgerrAttr, Buffer>, SerError> {
+    ExtAckBuilder::default()
         .text("bad")
         .offset(44)
+        .policy(policy_of_a_number(alloc)?)
         .missing_type(3)
         .missing_nest(20)
-        .build(rt.alloc());
-    let attrs = match built {
+        .build(alloc)
+}
+
+#[test]
+fn what_is_built_is_said_or_out_of_memory(rt: HostRuntime) {
+    let attrs = match built(rt.alloc()) {
         Ok(attrs) => attrs,
         Err(error) => {
             assert!(rt; matches!(error, SerError::Memory));
@@ -151,6 +165,11 @@ fn what_is_built_is_said_or_out_of_memory(rt: HostRuntime) {
         missing_nest: Some(20),
     };
     assert_is(&rt, said_by(&attrs), want);
+    let policy = attrs.policy().expect(&rt, "a policy");
+    let most: Option<u64> = policy
+        .get(NlPolicyTypeAttr::MaxValueU)
+        .expect(&rt, "a number");
+    assert_is(&rt, most, Some(4094));
 }
 
 #[test]
@@ -169,6 +188,48 @@ fn what_is_built(rt: HostRuntime) {
         .build(alloc)
         .expect(&rt, "attributes");
     assert_is(&rt, none.len(), 0);
+}
+
+/// A policy between an offset and a missing type: 0x8000 marks its nest (`NLA_F_NESTED`).
+const WITH_POLICY: [u8; 40] = [
+    8, 0, 2, 0, 16, 0, 0, 0, 24, 0, 4, 0x80, 8, 0, 1, 0, 3, 0, 0, 0, 12, 0, 5, 0, 0xfe, 0x0f, 0, 0,
+    0, 0, 0, 0, 8, 0, 5, 0, 3, 0, 0, 0,
+];
+
+#[test]
+fn a_policy_is_built(rt: HostRuntime) {
+    let alloc = rt.alloc();
+    let attrs = ExtAckBuilder::default()
+        .missing_type(3)
+        .policy(policy_of_a_number(alloc).expect(&rt, "a policy"))
+        .offset(16)
+        .build(alloc)
+        .expect(&rt, "attributes");
+    let mut bytes = Vec::new(alloc);
+    attrs.to_bytes(&mut bytes).expect(&rt, "memory");
+    assert_is(&rt, bytes.as_slice(), WITH_POLICY.as_slice());
+    let empty = ExtAckBuilder::default()
+        .policy(GenlBuffer::new(alloc))
+        .build(alloc)
+        .expect(&rt, "attributes");
+    let mut bytes = Vec::new(alloc);
+    empty.to_bytes(&mut bytes).expect(&rt, "memory");
+    assert_is(&rt, bytes.as_slice(), [4, 0, 4, 0x80].as_slice());
+}
+
+#[test]
+fn a_policy_that_is_too_long_is_refused(rt: HostRuntime) {
+    let alloc = rt.alloc();
+    // An attribute of 65528 bytes has room in a nest; one of 65532, which a length states too, has none.
+    for (count, want) in [(65524, false), (65528, true)] {
+        let zeros = vec![in alloc; 0u8; count].expect(&rt, "memory");
+        let mut policy = GenlBuffer::new(alloc);
+        policy
+            .put(alloc, NlPolicyTypeAttr::Pad, zeros.as_slice())
+            .expect(&rt, "an attribute");
+        let built = ExtAckBuilder::default().policy(policy).build(alloc);
+        assert_is(&rt, matches!(built, Err(SerError::Msg(_))), want);
+    }
 }
 
 /// A notification of link 3: `struct ifinfomsg` of linux/rtnetlink.h, without attributes.
