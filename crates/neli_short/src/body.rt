@@ -3,16 +3,21 @@
 ghost use Rattle.std.specs.Prelude.{◌≡◌, ℕ, List, Option, Ok, IfOk, IfErr, IsSomeAnd};
 ghost use Rattle.std.specs.Option.{option_copied, option_map};
 ghost use Rattle.neli_wire.specs.Refusals.{Refuses};
+ghost use Rattle.neli_lent.specs.Messages.{message_view};
 ghost use Rattle.neli_reader.specs.Retyping.{body_of};
-ghost use Rattle.neli_short.specs.Bodies.{read_there};
+ghost use Rattle.neli_short.specs.Bodies.{is_body, lent_body, read_there};
 
+use bitflags::Flags;
 use neli_attr::Buffer;
+use neli_consts::{NLMSG_DONE, NLMSG_ERROR, NlType, NlmF};
+use neli_lent::LentMessage;
 use neli_list::read_whole;
 use neli_reader::Nlmsghdr;
 use neli_wire::{DeError, FromBytesWithInput};
 use std::alloc::Global;
 
-/// Messages whose body is bytes, which are read as a type of the caller's.
+/// Messages whose body is bytes, which are read as a type of the caller's. A lent message has the body of the owned one
+/// that it becomes; it is read in place.
 pub trait ReadBody {
     // The body's bytes; none where the payload is of another kind.
     ghost body_in: { Self → Option (List ℕ) };
@@ -30,10 +35,23 @@ pub trait ReadBody {
         ensures refused { IfErr result (Refuses (read_there B.read (body_in self.now))
             (IsSomeAnd (body_in self.now) B.takes_memory)) }
     {
-        match self.body_bytes() {
-            Some(bytes) => Ok(Some(read_whole(alloc, bytes)?)),
-            None => Ok(None),
-        }
+        read_there(alloc, self.body_bytes())
+    }
+}
+
+/// The value of these bytes, where there are some.
+fn read_there<B: FromBytesWithInput>(
+    alloc: Global,
+    bytes: Option<&[u8]>,
+) -> Result<Option<B>, DeError>
+    ensures value { IfOk result
+        (λ body. read_there B.read (option_copied bytes.entry) ≡ Ok (option_map B.view body)) }
+    ensures refused { IfErr result (Refuses (read_there B.read (option_copied bytes.entry))
+        (IsSomeAnd (option_copied bytes.entry) B.takes_memory)) }
+{
+    match bytes {
+        Some(bytes) => Ok(Some(read_whole(alloc, bytes)?)),
+        None => Ok(None),
     }
 }
 
@@ -42,5 +60,35 @@ impl<T> ReadBody for Nlmsghdr<T, Buffer> {
 
     fn body_bytes(&self) -> Option<&[u8]> {
         Some(self.get_payload()?.as_ref())
+    }
+}
+
+impl<'b, T: NlType> ReadBody for LentMessage<'b, T> {
+    ghost body_in = { λ m. lent_body T.wire_value T.wire_number (message_view m) };
+
+    fn body_bytes(&self) -> Option<&[u8]> {
+        let number = self.nl_type().to_number();
+        if is_body(number, *self.nl_flags(), self.nl_payload()) {
+            Some(self.nl_payload())
+        } else {
+            None
+        }
+    }
+
+    // As the trait's, which gets no proof at a type with a lifetime.
+    fn body<B: FromBytesWithInput>(&self, alloc: Global) -> Result<Option<B>, DeError> {
+        read_there(alloc, self.body_bytes())
+    }
+}
+
+/// Whether a payload after a header of this type and these flags is a body. That of `NLMSG_ERROR` is none, and that of
+/// `NLMSG_DONE` is one where it has bytes, and the flags have no `NLM_F_MULTI`.
+fn is_body(number: u16, flags: NlmF, payload: &[u8]) -> bool
+    ensures { result ≡ is_body number flags payload.now }
+{
+    match number {
+        NLMSG_ERROR => false,
+        NLMSG_DONE => !payload.is_empty() && !flags.contains(NlmF::MULTI),
+        _ => true,
     }
 }

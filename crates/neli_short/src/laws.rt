@@ -5,15 +5,17 @@ ghost use Rattle.neli_wire.specs.laws.Values.{AreSame, GivesOnly, OnlyWhere};
 ghost use Rattle.neli_attr.specs.Handles.{attrs_by};
 ghost use Rattle.neli_attr.specs.Nlattr.{with_length as generic};
 ghost use Rattle.neli_attr.specs.Rtattr.{with_length as routing};
+ghost use Rattle.neli_lent.specs.Messages.{message_view};
 ghost use Rattle.neli_reader.specs.Retyping.{body_of};
+ghost use Rattle.neli_short.specs.Bodies.{lent_body};
 ghost use Rattle.neli_short.specs.Errors.{attr_text};
 ghost use Rattle.neli_short.specs.Made.{field};
 
 use crate::{AttrError, ExtAck, ExtAckBuilder, LentLookup, Lookup, Made, ReadBody};
 use neli_attr::{AttrHandle, AttrSlice, Buffer, FrameList, GenlBuffer, Nlattr, Rtattr};
-use neli_consts::{NlAttrType, NlmsgerrAttr};
+use neli_consts::{NlAttrType, NlType, NlmsgerrAttr};
 use neli_consts_attrs::RtaType;
-use neli_lent::LentAttrs;
+use neli_lent::{LentAttrs, LentMessage};
 use neli_list::TypedPayload;
 use neli_reader::{Nlmsgerr, Nlmsghdr};
 use neli_wire::{Constant, DeError};
@@ -48,6 +50,12 @@ pub fn answers_and_bodies_are_their_parts<M, T>()
     ensures answer { AreSame ⟦<Nlmsgerr<M> as ExtAck>⟧.said (λ e. e.ext_ack) }
     ensures attributes { AreSame ⟦<GenlBuffer<NlmsgerrAttr, Buffer> as ExtAck>⟧.said (λ attrs. attrs) }
     ensures body { AreSame ⟦<Nlmsghdr<T, Buffer> as ReadBody>⟧.body_in (λ m. body_of m.payload) }
+{}
+
+/// A lent message has the body of the owned message that it becomes.
+pub fn lent_bodies_are_those_of_owned_messages<T: NlType>()
+    ensures { AreSame ⟦<LentMessage<'static, T> as ReadBody>⟧.body_in
+        (λ m. lent_body T.wire_value T.wire_number (message_view m)) }
 {}
 
 /// A builder begins with nothing given; a refusal prints its number and its cause, and becomes its cause.

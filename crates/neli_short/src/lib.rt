@@ -4,7 +4,7 @@
 //! - [`Lookup`], [`LentLookup`]: an attribute that is looked up and read, also at the end of a path through nests, of
 //!   owned attributes and of lent ones. [`AttrError`]: which attribute can't be read, and why.
 //! - [`ExtAck`], [`ExtAckBuilder`]: what an error says beside its code, by words.
-//! - [`ReadBody`]: a message's body as a type of the caller's.
+//! - [`ReadBody`]: a message's body as a type of the caller's, of owned messages and of lent ones.
 //! - [`laws`]: what these say of the types that they stand on.
 //!
 //! A call is named as the one that it stands for (`get_with_len` as `get_attr_payload_as_with_len`), and `specs/`

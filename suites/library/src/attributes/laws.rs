@@ -11,7 +11,8 @@ use neli::genl::AttrType;
 use neli::rtnl::Rtattr;
 use neli::short::laws::{
     all_attributes_are_looked_up, answers_and_bodies_are_their_parts,
-    made_attributes_are_their_parts, refusals_are_their_parts,
+    lent_bodies_are_those_of_owned_messages, made_attributes_are_their_parts,
+    refusals_are_their_parts,
 };
 use neli::types::{Buffer, FrameList};
 
@@ -30,5 +31,6 @@ fn laws_are_called() {
     made_attributes_are_their_parts::<Ifla, CtrlAttr>();
     all_attributes_are_looked_up::<FrameList<Rtattr<Rta, Buffer>>, Rtattr<Rta, Buffer>, Rta>();
     answers_and_bodies_are_their_parts::<(), u16>();
+    lent_bodies_are_those_of_owned_messages::<u16>();
     refusals_are_their_parts();
 }

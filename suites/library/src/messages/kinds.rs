@@ -1,12 +1,14 @@
 //! The kinds of payload, by type, flags, code and length.
 
 use super::support::{
-    Raw, RawError, Refusal, assert_is, assert_is_at, error_in, raw_message, refusal_in, refusal_of,
+    Raw, RawError, Refusal, assert_is, assert_is_at, error_in, lent_message, raw_message,
+    refusal_in, refusal_of,
 };
 use neli::consts::nl::{NlmF, NlmsgerrAttr};
 use neli::err::{DeError, Nlmsgerr, NlmsghdrAck, NlmsghdrErr};
 use neli::iter::cut;
 use neli::nl::NlPayload;
+use neli::short::ReadBody;
 use neli::types::Buffer;
 use neli::{Cursor, FromBytes, FromBytesWithInput};
 use std::alloc::Global;
@@ -205,6 +207,19 @@ const PAYLOADS: [(&str, &[u8], Result<Kind, Refusal>); 17] = [
 fn a_payload_is_of_its_kind(rt: HostRuntime) {
     for (row, bytes, want) in PAYLOADS {
         assert_is_at(&rt, row, first_kind(&rt, rt.alloc(), bytes), want);
+    }
+}
+
+// A lent message has the body of the owned one: none where its payload is of another kind, also where that is refused.
+#[test]
+fn a_lent_payload_is_a_body_by_its_kind(rt: HostRuntime) {
+    for (row, bytes, kind) in PAYLOADS {
+        let message = lent_message::<u16>(&rt, bytes);
+        let want = match kind {
+            Ok(Kind::Body(_)) => Some(&bytes[16..]),
+            _ => None,
+        };
+        assert_is_at(&rt, row, message.body_bytes(), want);
     }
 }
 

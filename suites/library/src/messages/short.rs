@@ -2,7 +2,7 @@
 //! 2 the offset, 4 the policy, 5 the number of a missing attribute, 6 the place of the nest that lacks it.
 
 use super::kinds::{CAPPED, ERROR};
-use super::support::{assert_is, raw_message};
+use super::support::{assert_is, lent_message, raw_message};
 use neli::consts::linux::NlPolicyTypeAttr;
 use neli::consts::nl::NlmsgerrAttr;
 use neli::err::{DeError, Nlmsgerr, SerError};
@@ -246,6 +246,20 @@ fn a_body_is_read(rt: HostRuntime) {
     assert_is(&rt, *body.expect(&rt, "a link").ifi_index(), 3);
     assert_is(&rt, link.body_bytes().expect(&rt, "bytes").len(), 16);
     let error = raw_message(&rt, alloc, &ERROR);
+    let body: Option<Ifinfomsg> = error.body(alloc).expect(&rt, "nothing");
+    assert!(rt; body.is_none());
+    let refused = link.body::<()>(alloc).err().expect(&rt, "it has bytes");
+    assert!(rt; matches!(refused, DeError::InvalidInput(16)));
+}
+
+#[test]
+fn a_lent_body_is_read(rt: HostRuntime) {
+    let alloc = rt.alloc();
+    let link = lent_message::<u16>(&rt, &LINK);
+    let body: Option<Ifinfomsg> = link.body(alloc).expect(&rt, "a link");
+    assert_is(&rt, *body.expect(&rt, "a link").ifi_index(), 3);
+    assert_is(&rt, link.body_bytes().expect(&rt, "bytes"), &LINK[16..]);
+    let error = lent_message::<u16>(&rt, &ERROR);
     let body: Option<Ifinfomsg> = error.body(alloc).expect(&rt, "nothing");
     assert!(rt; body.is_none());
     let refused = link.body::<()>(alloc).err().expect(&rt, "it has bytes");
