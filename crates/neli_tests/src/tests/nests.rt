@@ -14,26 +14,36 @@ use neli::types::{Buffer, RtBuffer};
 use std::alloc::Global;
 use std::test::Fail;
 
-/// The link's kind: a bridge with these settings, made from the inside out.
-fn bridge(alloc: Global) -> Result<Rtattr<Ifla, Buffer>, Fail> {
-    let settings = Rtattr::of(alloc, IflaInfo::Data, ())?
-        .nest(&Rtattr::of(alloc, IflaBr::McastSnooping, 1u8)?)?
-        .nest(&Rtattr::of(alloc, IflaBr::StpState, 1u32)?)?
-        .nest(&Rtattr::of(alloc, IflaBr::Priority, 5u16)?)?;
-    let info = Rtattr::of(alloc, Ifla::Linkinfo, ())?
-        .nest(&Rtattr::of(alloc, IflaInfo::Kind, *b"bridge")?)?
-        .nest(&settings)?;
+/// The settings of the bridge.
+fn settings(alloc: Global) -> Result<RtBuffer<IflaBr, Buffer>, Fail> {
+    let mut settings = RtBuffer::new(alloc);
+    settings.put(alloc, IflaBr::McastSnooping, 1u8)?;
+    settings.put(alloc, IflaBr::StpState, 1u32)?;
+    settings.put(alloc, IflaBr::Priority, 5u16)?;
+    Ok(settings)
+}
+
+/// The link's kind: a bridge with these settings.
+fn bridge(alloc: Global) -> Result<RtBuffer<IflaInfo, Buffer>, Fail> {
+    let mut info = RtBuffer::new(alloc);
+    info.put(alloc, IflaInfo::Kind, *b"bridge")?;
+    info.push(Rtattr::nest_of(alloc, IflaInfo::Data, settings(alloc)?)?)?;
     Ok(info)
+}
+
+/// The attributes of the link to create.
+fn attributes(alloc: Global, name: &str) -> Result<RtBuffer<Ifla, Buffer>, Fail> {
+    let mut attrs = RtBuffer::new(alloc);
+    attrs.put(alloc, Ifla::Ifname, name)?;
+    attrs.push(Rtattr::nest_of(alloc, Ifla::Linkinfo, bridge(alloc)?)?)?;
+    Ok(attrs)
 }
 
 /// The link to create.
 fn link(alloc: Global, name: &str) -> Result<Ifinfomsg, Fail> {
-    let mut attrs: RtBuffer<Ifla, Buffer> = RtBuffer::new(alloc);
-    attrs.put(alloc, Ifla::Ifname, name)?;
-    attrs.push(bridge(alloc)?)?;
     let link = IfinfomsgBuilder::default()
         .ifi_family(RtAddrFamily::Unspecified)
-        .rtattrs(attrs)
+        .rtattrs(attributes(alloc, name)?)
         .build(alloc)?;
     Ok(link)
 }
