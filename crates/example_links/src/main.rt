@@ -88,17 +88,24 @@ fn add_line(
     Ok(())
 }
 
+/// Why an answer is incomplete.
+fn trouble_of(verdict: Verdict) -> Trouble {
+    match verdict {
+        Verdict::Interrupted => Trouble::Interrupted,
+        Verdict::Failed(code) => Trouble::Failed(code),
+        Verdict::Lost(_) => Trouble::Lost,
+        Verdict::Pending | Verdict::Complete => Trouble::NoEnd,
+    }
+}
+
 /// Refused if an answer is incomplete.
 fn want_all(verdict: Verdict) -> Result<(), Trouble>
     ensures complete { IsOk result ↔ (verdict ≡ Verdict.Complete) }
 {
-    match verdict {
-        Verdict::Complete => Ok(()),
-        Verdict::Pending => Err(Trouble::NoEnd),
-        Verdict::Interrupted => Err(Trouble::Interrupted),
-        Verdict::Failed(code) => Err(Trouble::Failed(code)),
-        Verdict::Lost(_) => Err(Trouble::Lost),
+    if verdict == Verdict::Complete {
+        return Ok(());
     }
+    Err(trouble_of(verdict))
 }
 
 /// The status for this verdict.
@@ -114,20 +121,37 @@ fn status_of(trouble: &Trouble) -> u8 {
     }
 }
 
-/// Requests all links, and appends the line of each in the answer.
-fn read_links(alloc: Global, datagrams: &[u8], lines: &mut Vec<String>) -> Result<(), Trouble>
-    ensures kept { take (length lines.old.items) lines.new.items ≡ lines.old.items }
-{
+/// The links of all families, as a request's body.
+fn all_links(alloc: Global) -> Result<Ifinfomsg, Trouble> {
+    Ok(
+        IfinfomsgBuilder::default()
+            .ifi_family(RtAddrFamily::Unspecified)
+            .build(alloc)?,
+    )
+}
+
+/// A router with the port and the next number of the answer's first message.
+fn router_for(alloc: Global, datagrams: &[u8]) -> Result<NlRouter, Trouble> {
     let first = LentMessage::<u16>::lend(&mut Cursor::new(datagrams))?;
     let (mut router, _multicast) = NlRouter::<Log>::new(alloc, *first.nl_pid());
     router.set_next_seq(*first.nl_seq());
-    let all = IfinfomsgBuilder::default()
-        .ifi_family(RtAddrFamily::Unspecified)
-        .build(alloc)?;
-    let mut request = router.request(alloc, Rtm::Getlink, NlmF::DUMP, all)?;
+    Ok(router)
+}
+
+/// Requests all links, and returns the answer.
+fn answer(alloc: Global, datagrams: &[u8]) -> Result<Dump<Rtm, Ifinfomsg>, Trouble> {
+    let mut router = router_for(alloc, datagrams)?;
+    let mut request = router.request(alloc, Rtm::Getlink, NlmF::DUMP, all_links(alloc)?)?;
     // A socket sends `request.bytes` here, and gives the datagrams.
     router.receive_for(alloc, datagrams, &[])?;
-    let Dump { items, verdict } = router.read_dump(alloc, &mut request.handle)?;
+    Ok(router.read_dump(alloc, &mut request.handle)?)
+}
+
+/// Appends the line of each link in the answer.
+fn read_links(alloc: Global, datagrams: &[u8], lines: &mut Vec<String>) -> Result<(), Trouble>
+    ensures kept { take (length lines.old.items) lines.new.items ≡ lines.old.items }
+{
+    let Dump { items, verdict } = answer(alloc, datagrams)?;
     for item in items {
         add_line(alloc, &item?, lines)?;
     }
