@@ -39,6 +39,7 @@ struct reader {
 	const char *name;
 	walk *run;
 	double nanoseconds[SIZES]; /* for one message, in the best round */
+	double heap_calls; /* malloc and realloc, for one message */
 };
 
 struct subject {
@@ -52,6 +53,24 @@ struct bytes {
 };
 
 static const size_t sizes[SIZES] = { MEGABYTE, 4 * MEGABYTE, LARGEST };
+
+/* The linker gives the calls of malloc and realloc to these (--wrap). */
+void *__real_malloc(size_t size);
+void *__real_realloc(void *piece, size_t size);
+
+static size_t heap_calls;
+
+void *__wrap_malloc(size_t size)
+{
+	heap_calls++;
+	return __real_malloc(size);
+}
+
+void *__wrap_realloc(void *piece, size_t size)
+{
+	heap_calls++;
+	return __real_realloc(piece, size);
+}
 
 static void fail(const char *what, const char *name)
 {
@@ -448,14 +467,17 @@ static bool has_reader(const struct subject *subject, int i)
 	return i < READERS && subject->readers[i].run;
 }
 
-static void check_sums(const struct subject *subject, struct bytes all)
+/* Each reader has to find libmnl's sum, and its heap calls are counted. */
+static void check_sums(struct subject *subject, struct bytes all)
 {
-	const struct reader *readers = subject->readers;
-	uint64_t wanted = sum_of(&readers[0], all);
+	uint64_t wanted = sum_of(&subject->readers[0], all);
 
-	for (int i = 1; has_reader(subject, i); i++)
-		if (sum_of(&readers[i], all) != wanted)
-			fail("found another sum than libmnl", readers[i].name);
+	for (int i = 0; has_reader(subject, i); i++) {
+		heap_calls = 0;
+		if (sum_of(&subject->readers[i], all) != wanted)
+			fail("found another sum than libmnl", subject->readers[i].name);
+		subject->readers[i].heap_calls = (double)heap_calls / (double)count_messages(all);
+	}
 }
 
 /* One round walks as many bytes at each size, after a walk that is not timed: it meets its own caches. */
@@ -497,7 +519,7 @@ static void print_reader(const char *what, const struct reader *reader, const st
 	printf("   ");
 	for (int i = 0; i < SIZES; i++)
 		printf(" %7.2f", reader->nanoseconds[i] / mnl->nanoseconds[i]);
-	printf("    %7.2f\n", reader->nanoseconds[SIZES - 1] / reader->nanoseconds[0]);
+	printf("    %7.2f %10.1f\n", reader->nanoseconds[SIZES - 1] / reader->nanoseconds[0], reader->heap_calls);
 }
 
 static void print_subject(const struct subject *subject)
@@ -509,8 +531,8 @@ static void print_subject(const struct subject *subject)
 static void print_heading(void)
 {
 	printf("%-20s %26s    %23s\n", "", "ns per message", "times libmnl");
-	printf("%-20s %8s %8s %8s    %7s %7s %7s    %7s\n", "",
-	       "1 MB", "4 MB", "16 MB", "1 MB", "4 MB", "16 MB", "16:1 MB");
+	printf("%-20s %8s %8s %8s    %7s %7s %7s    %7s %10s\n", "",
+	       "1 MB", "4 MB", "16 MB", "1 MB", "4 MB", "16 MB", "16:1 MB", "heap calls");
 }
 
 static void bench(const char *path, unsigned int header, struct subject *subjects, int count)

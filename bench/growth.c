@@ -2,6 +2,7 @@
  *
  *   growth messages N   hands in and reads N messages of 16 bytes, of one handle
  *   growth handles N    opens N handles, and hands in, reads and closes for each
+ *   growth strays N     hands in N messages that answer no request, while 1000 handles are open
  *   growth rows N       reads a table of N rows, and finds each of them; 16000 at most
  *   growth depth N      prints a message with N attributes for each of 1000 times, each in the one before; 9 at most
  *
@@ -53,6 +54,14 @@ static void do_handles(struct neli_router *router, size_t n) {
     for (size_t i = 0; i < n; i++)
         if (neli_router_close(router, handles[i]) != NELI_OK) fail("a handle is not closed");
     free(handles);
+}
+
+static void do_strays(struct neli_router *router, size_t n) {
+    size_t handle = 0;
+    struct neli_item item;
+    for (size_t i = 0; i < BATCH; i++) handle = open_one(router);
+    for (size_t i = 0; i < n; i++) hand_in(router, BATCH);
+    if (n && neli_router_read(router, handle, &item) != NELI_STRAY) fail("no stray has arrived");
 }
 
 static void add(struct neli_tables *tables, const char *text) {
@@ -128,6 +137,7 @@ int main(int count, char **words) {
     if (neli_router_new(&router, 0) != NELI_OK || neli_tables_new(&tables) != NELI_OK) fail("no memory");
     if (!strcmp(words[1], "messages")) do_messages(&router, n);
     else if (!strcmp(words[1], "handles")) do_handles(&router, n);
+    else if (!strcmp(words[1], "strays")) do_strays(&router, n);
     else if (!strcmp(words[1], "rows")) do_rows(&tables, n);
     else if (!strcmp(words[1], "depth")) do_depth(&tables, n);
     else fail("another word");

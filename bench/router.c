@@ -20,7 +20,7 @@
 #define ROUNDS 3
 #endif
 
-enum { OPEN = 100000, MESSAGES = 1000000, STRAYS = 100000 };
+enum { OPEN = 100000, MESSAGES = 1000000, STRAYS = 1000000 };
 
 /* How many messages are lent at once. */
 enum { ITEMS = 32 };
@@ -244,31 +244,40 @@ static double header_time(const char *path) {
     return best;
 }
 
-/* Closes one of these handles, taken at random, and opens another, as many times as they are; returns what one takes. */
-static double change_handles(struct neli_router *router, size_t *handles, unsigned count) {
+/* What a handle takes: to open it; to close the oldest and open another; to close any, taken at random, and open another. */
+struct handle_times {
+    double opening, oldest, any;
+};
+
+/* Closes a handle and opens another, as many times as they are: the oldest ones in turn, or any; returns what one takes. */
+static double change_handles(struct neli_router *router, size_t *handles, unsigned count, bool any) {
     uint32_t random = 1;
     double start = now();
     for (unsigned i = 0; i < count; i++) {
         random = random * 1664525 + 1013904223;
-        size_t *one = &handles[(random >> 8) % count];
+        size_t *one = &handles[any ? (random >> 8) % count : i];
         if (neli_router_close(router, *one) != NELI_OK) fail("a handle is not closed");
         *one = open_one(router);
     }
     return (now() - start) / count;
 }
 
-/* Opens so many handles, and changes them twice: the first time, in which tables still grow, is not counted. */
-static void time_handles(unsigned count, double *opening, double *changing) {
+/* Opens so many handles, and changes them twice each way: the first time, in which tables still grow, is not counted. */
+static struct handle_times time_handles(unsigned count) {
     struct neli_router router = NELI_ROUTER_CLOSED;
+    struct handle_times times;
     size_t *handles = malloc(count * sizeof *handles);
     if (!handles || neli_router_new(&router, 0) != NELI_OK) fail("no memory");
     double start = now();
     for (unsigned i = 0; i < count; i++) handles[i] = open_one(&router);
-    *opening = (now() - start) / count;
-    change_handles(&router, handles, count);
-    *changing = change_handles(&router, handles, count);
+    times.opening = (now() - start) / count;
+    change_handles(&router, handles, count, false);
+    times.oldest = change_handles(&router, handles, count, false);
+    change_handles(&router, handles, count, true);
+    times.any = change_handles(&router, handles, count, true);
     neli_router_free(&router);
     free(handles);
+    return times;
 }
 
 /* ---- the table */
@@ -297,69 +306,84 @@ static double compare_by(runner *run, const char *tool, struct script kept) {
     return all.seconds * each;
 }
 
-/* A line of the table; what is read is also lent, and set beside a header. Returns whether the target is met. */
-static bool compare(const char *tool, double header, struct script kept, unsigned first, unsigned second) {
-    double lent = 0;
-    printf("%8u %8u ", first, second);
+/* A line of the table, after its first numbers; what is read is also lent, and set beside a header. Returns whether the
+ * target is met. */
+static bool compare(const char *tool, double header, struct script kept) {
     compare_by(run, tool, kept);
     printf("  ");
     double read = compare_by(run_calls, tool, kept);
-    if (kept.over) {
-        printf("  ");
-        lent = compare_by(run_lent, tool, kept);
-        printf("  ");
-        double at_once = compare_by(run_lent_at_once, tool, kept);
-        printf(" %5.0f %5.0f %5.0f", read / header, lent / header, at_once / header);
-    }
-    printf("\n");
+    printf("  ");
+    double lent = compare_by(run_lent, tool, kept);
+    printf("  ");
+    double at_once = compare_by(run_lent_at_once, tool, kept);
+    printf(" %5.0f %5.0f %5.0f\n", read / header, lent / header, at_once / header);
     fflush(stdout);
     return lent <= MOST_OF_A_MESSAGE * header;
 }
 
+static double lesser(double a, double b) { return a < b ? a : b; }
+
 /* The table of handles; returns whether the target is met. */
 static bool compare_handles(double header) {
     bool is_met = true;
-    puts("\n    open   opening one   closing one and opening another   times a header");
+    puts("\n    open   opening one   and closing the oldest   and closing any   times a header");
     for (unsigned count = 1000; count <= OPEN; count *= 10) {
-        double opening = 0, changing = 0;
-        for (int i = 0; i < ROUNDS; i++) {
-            double opened, changed;
-            time_handles(count, &opened, &changed);
-            if (!i || opened < opening) opening = opened;
-            if (!i || changed < changing) changing = changed;
+        struct handle_times least = time_handles(count);
+        for (int i = 1; i < ROUNDS; i++) {
+            struct handle_times next = time_handles(count);
+            least.opening = lesser(next.opening, least.opening);
+            least.oldest = lesser(next.oldest, least.oldest);
+            least.any = lesser(next.any, least.any);
         }
-        printf("%8u %10.0f ns %30.0f ns %10.0f %6.0f\n", count, opening, changing, opening / header, changing / header);
-        is_met = is_met && changing <= MOST_OF_A_HANDLE * header;
+        printf("%8u %10.0f ns %21.0f ns %14.0f ns %6.0f %4.0f %4.0f\n", count, least.opening, least.oldest, least.any,
+               least.opening / header, least.oldest / header, least.any / header);
+        is_met = is_met && least.oldest <= MOST_OF_A_HANDLE * header && least.any <= MOST_OF_A_HANDLE * header;
     }
     return is_met;
 }
 
-int main(int argc, char **argv) {
-    static const unsigned handles[] = {1, 1000, 100000};
+/* The table of messages; returns whether the target is met. */
+static bool compare_messages(const char *tool, double header) {
+    static const struct { unsigned open, used; } handles[] = {{1, 1}, {1000, 1000}, {OPEN, 1}, {OPEN, 1000}, {OPEN, OPEN}};
     bool is_met = true;
+    printf("%d messages of 16 bytes, a datagram each\n\n", MESSAGES);
+    printf(" waiting     open  of them      neli_tool: ns a message      MB      through C: ns a message      MB"
+           "           lent: ns a message      MB   lent, %2d at once: ns a message      MB  times a header\n", ITEMS);
+    puts(" at most  handles     used      all dropped  differ     all        all dropped  differ     all"
+         "        all dropped  differ     all        all dropped  differ     all   read  lent at once");
+    for (unsigned batch = 1000; batch <= MESSAGES; batch *= 1000)
+        for (unsigned i = 0; i < sizeof handles / sizeof handles[0]; i++) {
+            struct script script = {handles[i].open, MESSAGES, handles[i].used, batch, false};
+            printf("%8u %8u %8u ", batch, handles[i].open, handles[i].used);
+            is_met = compare(tool, header, script) && is_met;
+        }
+    return is_met;
+}
+
+/* The table of strays, each of which goes to all open handles. */
+static void compare_strays(const char *tool, double header) {
+    printf("\n%d strays, of which none is read\n\n", STRAYS);
+    puts("                      neli_tool: ns a stray        MB      through C: ns a stray        MB  times");
+    puts("  strays     open      all dropped  differ     all        all dropped  differ     all  a header");
+    for (unsigned open = 1; open <= OPEN; open = open == 1 ? 1000 : open * 100) {
+        struct script script = {open, STRAYS, 0, STRAYS, false};
+        printf("%8u %8u ", STRAYS, open);
+        compare_by(run, tool, script);
+        printf("  ");
+        printf(" %5.0f\n", compare_by(run_calls, tool, script) / header);
+        fflush(stdout);
+    }
+}
+
+int main(int argc, char **argv) {
     if (argc != 3) {
         fputs("usage: router NELI_TOOL DUMP\n", stderr);
         return 1;
     }
     double header = header_time(argv[2]);
     printf("libmnl's walk over a header: %.1f ns\n", header);
-    printf("%d messages of 16 bytes, a datagram each, with %d open handles\n\n", MESSAGES, OPEN);
-    printf(" waiting  handles     neli_tool: ns a message      MB      through C: ns a message      MB"
-           "           lent: ns a message      MB   lent, %2d at once: ns a message      MB  times a header\n", ITEMS);
-    puts(" at most they are      all dropped  differ     all        all dropped  differ     all"
-         "        all dropped  differ     all        all dropped  differ     all   read  lent at once");
-    for (unsigned batch = 1000; batch <= MESSAGES; batch *= 1000)
-        for (int i = 0; i < 3; i++) {
-            struct script script = {OPEN, MESSAGES, handles[i], batch, false};
-            is_met = compare(argv[1], header, script, batch, handles[i]) && is_met;
-        }
-    printf("\n%d strays, of which none is read\n\n", STRAYS);
-    puts("                      neli_tool: ns a stray        MB      through C: ns a stray        MB");
-    puts("  strays     open      all dropped  differ     all        all dropped  differ     all");
-    for (int i = 0; i < 3; i++) {
-        struct script script = {handles[i], STRAYS, 0, STRAYS, false};
-        compare(argv[1], header, script, STRAYS, handles[i]);
-    }
+    bool is_met = compare_messages(argv[1], header);
+    compare_strays(argv[1], header);
     is_met = compare_handles(header) && is_met;
     return is_met ? 0 : 2;
 }
