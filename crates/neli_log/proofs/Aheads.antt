@@ -1,17 +1,13 @@
 -- What waits from a place on.
-use Rattle.std.proofs.Common.{ℕ, ◌≡◌, ◌+◌, ◌-◌, List, [], ◌∷◌, drop, map, Option, Some, None, refl}
+use Rattle.std.proofs.Common.{ℕ, ◌≡◌, ◌+◌, ◌-◌, List, [], ◌∷◌, Option, Some, refl}
 use Rattle.std.specs.List.{slice_get}
-use Rattle.neli_deliveries.specs.declared.delivery.Delivery.{Delivery}
-use Rattle.neli_deliveries.specs.Deliveries.{head_of}
 use Rattle.neli_log.specs.declared.content.Content.{Content}
 use Rattle.neli_log.specs.declared.content.Content.TheVariants as content
 use Rattle.neli_log.specs.declared.datagrams.Datagrams.{Datagrams}
 use Rattle.neli_log.specs.declared.entry.Entry.{Entry}
-use Rattle.neli_log.specs.declared.lending.LentDelivery.{LentDelivery}
 use Rattle.neli_log.specs.declared.place.Place.{Place}
 use Rattle.neli_log.specs.declared.span.Span.{Span}
 use Rattle.neli_log.specs.Contents.{AreBacked, IsReadable, span_of, spans_of}
-use Rattle.neli_log.specs.Lending.{IsFirstLent, IsLent}
 use Rattle.neli_log.specs.Places.{rest}
 use Rattle.neli_log.specs.Routes.{items_for}
 use Rattle.neli_log.proofs.Nexts.{IsNext}
@@ -42,21 +38,3 @@ ahead_readable d base es w p (content.Stray x) cs h is =
     (let j = spanned base es w p (content.Stray x) cs x is refl in
     ((spans_of es, j.0, h.names, j.1), h.messages j.0 x j.1))
 ahead_readable d base es w p (content.Fault e) cs h is = tt
-
--- ---- the deliveries of these items
-
-pub none_lent : (f : Content → Delivery) (cs : List Content) (ds : List Delivery) → map f cs ≡ ds → cs ≡ []
-    → IsFirstLent (head_of (Some ds)) None
-none_lent f cs ds view none = rw (← view, none) refl
-
-pub none_left : (f : Content → Delivery) (cs : List Content) (ds : List Delivery) → map f cs ≡ ds → cs ≡ []
-    → ds ≡ drop 1 ds
-none_left f cs ds view none = rw (← view, none) refl
-
-pub first_lent : (f : Content → Delivery) (cs after : List Content) (ds : List Delivery) (c : Content)
-    (l : LentDelivery) → map f cs ≡ ds → cs ≡ c ∷ after → IsLent (f c) l → IsFirstLent (head_of (Some ds)) (Some l)
-first_lent f cs after ds c l view is lent = rw (← view, is) lent
-
-pub others_left : (f : Content → Delivery) (cs after : List Content) (ds : List Delivery) (c : Content) → map f cs ≡ ds
-    → cs ≡ c ∷ after → map f after ≡ drop 1 ds
-others_left f cs after ds c view is = rw (← view, is) refl

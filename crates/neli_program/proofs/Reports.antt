@@ -1,6 +1,6 @@
 -- The lines of a report, one after the other.
 use Rattle.std.proofs.Common.{◌≡◌, ◌∙◌, ℕ, ◌+◌, List, [], ◌∷◌, ◌++◌, codes, length, Ok, sym, ap, append_assoc, ◌≤◌}
-use Rattle.std.proofs.Common.{arith, length-append}
+use Rattle.std.proofs.Common.{arith}
 use Rattle.neli_runs.specs.declared.command.Command.{Command}
 use Rattle.neli_runs.specs.declared.command.Outcome.TheVariants as outcome
 use Rattle.neli_runs.specs.OpenRuns.{GoesOn}
@@ -43,27 +43,4 @@ performed port next port' next' pending pending' handles handles' sent sent' tex
       writes ∙ ap (λ t. t ++ line_with sent' o) lines ∙ ap (λ n. report 0 os ++ line_with n o) after_none
           ∙ sym (report_push 0 os o),
       count ∙ sym (requests_push os o),
-    )
-
-pub sends_one : (o : RawOutcome) → sends o ≤ 1
-sends_one (outcome.Sent bytes) = omega arith
-sends_one outcome.Done = omega arith
-sends_one (outcome.NotSent e) = omega arith
-sends_one (outcome.Item i) = omega arith
-sends_one outcome.End = omega arith
-sends_one outcome.Waits = omega arith
-sends_one outcome.NoHandle = omega arith
-
--- a line has a byte or more
-pub line_counts : (sent sent' : ℕ) (text text' line : List ℕ) (o : RawOutcome) → sent ≤ length text
-    → sent' ≡ sent + sends o → text' ≡ text ++ (line ++ codes "\n") → sent' ≤ length text'
-line_counts sent sent' text text' line o within counts writes =
-    omega (
-      arith,
-      within,
-      counts,
-      sends_one o,
-      ap length writes,
-      length-append text (line ++ codes "\n"),
-      length-append line (codes "\n"),
     )

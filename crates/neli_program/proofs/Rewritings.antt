@@ -11,7 +11,6 @@ use Rattle.neli_wire.specs.declared.errors.DeError.{DeError}
 use Rattle.neli_wire.specs.declared.errors.DeError.TheVariants as de
 use Rattle.neli_wire.specs.Numbers.{AreBytes}
 use Rattle.neli_wire.specs.Refusals.{Refuses}
-use Rattle.neli_wire.specs.declared.errors.SerError.TheVariants as ser
 use Rattle.neli_wire.specs.Writing.{Wire, ◌+++◌, append_wire}
 use Rattle.neli_reader.specs.Framed.{Nlmsghdr}
 use Rattle.neli_reader.specs.NlPayload.{NlPayload}

@@ -4,13 +4,12 @@ use Rattle.std.proofs.Common.{ap, map, find, option_map, IsErrAnd, IsSomeAnd, If
 use Rattle.std.proofs.lemmas.List.{length-map}
 use Rattle.neli_consts.specs.declared.index.Index.{Index}
 use Rattle.neli_wire.specs.Bytes.{Reading}
-use Rattle.neli_wire.specs.Strings.{owned_text}
 use Rattle.neli_wire.specs.laws.Elements.{elements_by}
 use Rattle.neli_consts.specs.CtrlAttrMcastGrp.{ctrl_attr_mcast_grp_of}
 use Rattle.neli_attr.specs.Attributes.{attributes_in}
 use Rattle.neli_attr.specs.TypeField.{type_of}
 use Rattle.neli_genl.specs.Genlmsghdr.{AttributesRead}
-use Rattle.neli_resolvers.specs.Attributes.{Group, HasBytes, family_name, family_name_takes_memory, group_attrs}
+use Rattle.neli_resolvers.specs.Attributes.{Group, HasBytes, group_attrs}
 use Rattle.neli_resolvers.specs.Attributes.{group_attrs_take_memory, group_name_takes_memory, groups}
 use Rattle.neli_resolvers.specs.Attributes.{groups_take_memory}
 use Rattle.std.specs.Result.{result_ok}
@@ -139,17 +138,6 @@ step_refused (Err d) (Utf8 u) step whole takes more is same so h = rw is (same h
 step_refused (Err d) (InvalidInput n) step whole takes more is same so h = rw is (same h)
 
 -- ---- payloads that have bytes
-
--- a text has a payload
-text_has_bytes : (payload : Option (List ℕ)) (text : List ℕ) → read_found payload owned_text ≡ Ok text
-    → HasBytes payload
-text_has_bytes None text is = absurd cc
-text_has_bytes (Some []) text is = absurd cc
-text_has_bytes (Some (b ∷ s)) text is = omega arith
-
-pub named_family : (attrs : AttributesRead CtrlAttr) (name : List ℕ) → family_name attrs ≡ Ok name
-    → family_name_takes_memory attrs
-named_family attrs name is = text_has_bytes (payload_where is_family_name attrs) name is
 
 -- a list that is not empty has a payload
 list_has_bytes : {V : Type 0} (read : List ℕ → Reading V) (payload : Option (List ℕ)) (all : List V)

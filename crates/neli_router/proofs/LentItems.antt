@@ -1,7 +1,7 @@
 -- What is lent, and the step past it, are those of the delivery as it is read untyped.
-use Rattle.std.proofs.Common.{◌≡◌, ℕ, ℤ, pos, Bool, true, false, not, ◌||◌, ◌&&◌, List, [], ◌∷◌, length, drop, nat_eq}
-use Rattle.std.proofs.Common.{Option, Some, None, Result, Ok, Err, refl, sym, ap, subst, ◌∙◌, arith, rules}
-use Rattle.std.specs.Prelude.{◌==◌, bit_and, nat_lt, nat_le, if◌then◌else◌, option_map}
+use Rattle.std.proofs.Common.{◌≡◌, ℕ, ℤ, pos, Bool, true, false, ◌||◌, ◌&&◌, List, [], ◌∷◌, length, drop, nat_eq}
+use Rattle.std.proofs.Common.{Option, Some, None, Result, Ok, Err, refl, sym, ap, subst, ◌∙◌, arith}
+use Rattle.std.specs.Prelude.{◌==◌, bit_and, nat_lt, if◌then◌else◌, option_map}
 use Rattle.std.proofs.lemmas.Bool.Decides.{nat_tests}
 use Rattle.neli_wire.specs.declared.errors.DeError.{DeError}
 use Rattle.neli_wire.specs.Reading.{◌>>=◌}
@@ -16,7 +16,6 @@ use Rattle.neli_reader.specs.NlPayload.{NlPayload}
 use Rattle.neli_reader.specs.NlPayload.TheVariants as payload
 use Rattle.neli_reader.specs.Nlmsgerr.{Nlmsgerr}
 use Rattle.neli_reader.specs.RouterError.TheVariants as router
-use Rattle.neli_reader.specs.SocketError.{SocketError}
 use Rattle.neli_lent.specs.Messages.{Lent, message_view}
 use Rattle.neli_lent.specs.declared.message.LentMessage.{LentMessage}
 use Rattle.neli_deliveries.specs.declared.delivery.Delivery.{Delivery}
@@ -27,7 +26,7 @@ use Rattle.neli_log.specs.Lending.{IsFirstLent, IsLent, Lends}
 use Rattle.neli_log.specs.declared.lending.LentDelivery.{LentDelivery}
 use Rattle.neli_log.specs.declared.lending.LentDelivery.TheVariants as lent
 use Rattle.neli_router.specs.Lending.{IsErrorOf, IsLentItem, LentItem, code_or_zero, first_verdict, is_lent_flagged}
-use Rattle.neli_router.specs.Lending.{lent_answers, lent_end_code, lent_ends, lent_error_verdict, lent_item, lent_last}
+use Rattle.neli_router.specs.Lending.{lent_answers, lent_end_code, lent_ends, lent_item, lent_last}
 use Rattle.neli_router.specs.Lending.{lent_last_verdict, lent_single, lent_step, lent_verdict, step_by, untyped}
 use Rattle.neli_router.specs.Lending.{with_step}
 use Rattle.neli_router.specs.Rule.{ends_at, has_number, is_answer, is_single, item_of, last_item, last_item_of_payload}

@@ -6,7 +6,6 @@ use Rattle.neli_wire.specs.Reading.{◌>>=◌}
 use Rattle.neli_wire.specs.laws.Reading.{bind_ok, ok_is}
 use Rattle.neli_reader.specs.Framed.{Nlmsghdr, NlmsghdrErr}
 use Rattle.neli_reader.specs.Headers.{Header}
-use Rattle.neli_reader.specs.Kinds.{payload_in}
 use Rattle.neli_reader.specs.NlPayload.{NlPayload}
 use Rattle.neli_reader.specs.NlPayload.TheVariants as payload
 use Rattle.neli_reader.specs.Nlmsgerr.{Nlmsgerr}

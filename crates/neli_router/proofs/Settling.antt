@@ -4,7 +4,6 @@ use Rattle.std.proofs.Common.{Ok, Err, refl, sym, ap, subst, ◌∙◌, option_m
 use Rattle.std.specs.Prelude.{if◌then◌else◌, ◌==◌}
 use Rattle.std.specs.List.{list_any}
 use Rattle.std.proofs.lemmas.Bool.{eqb-false, eqb-true, ne_eqb}
-use Rattle.std.proofs.lemmas.List.Folds.{list_any-append}
 use Rattle.std.specs.HashMap.{HashMap, Updates}
 use Rattle.neli_wire.specs.declared.errors.DeError.{DeError}
 use Rattle.neli_reader.specs.Cuts.{Cut}
@@ -23,38 +22,6 @@ use Rattle.neli_router.specs.declared.verdict.Heard.{Heard}
 
 emptied : {A : Type 0} → Option (List A) → Option (List A)
 emptied o = option_map (λ _. []) o
-
--- the tests of the requests so far, and of one more
-after_one : {A : Type 0} (a b c d : Bool) (o : Option (List A))
-    → (if b then None else (if d then option_map (λ _. []) (if a then None
-    else (if c then option_map (λ _. []) o else o)) else (if a then None
-    else (if c then option_map (λ _. []) o else o))))
-    ≡ (if a || b then None else (if c || d then option_map (λ _. []) o else o))
-after_one true true c d o = refl
-after_one true false c true o = refl
-after_one true false c false o = refl
-after_one false true c d o = refl
-after_one false false true true None = refl
-after_one false false true true (Some xs) = refl
-after_one false false true false o = refl
-after_one false false false true o = refl
-after_one false false false false o = refl
-
-module _ {A : Type 0} (port : ℕ) (messages : List (Lent ℕ)) where
-  -- without requests all is kept
-  pub kept-none : (w : Option ℕ) (o : Option (List A)) → kept_of port [] messages w o ≡ o
-  kept-none None o = refl
-  kept-none (Some q) o = refl
-
-  -- with one request more
-  pub kept-more : (gs : List GivenUp) (g : GivenUp) (w : Option ℕ) (o : Option (List A))
-      → kept_of port (g ∷ []) messages w (kept_of port gs messages w o) ≡ kept_of port (gs ++ g ∷ []) messages w o
-  kept-more gs g None o = refl
-  kept-more gs g (Some q) o =
-      let ended = list_any-append (λ x. (x.number == q) && list_any (ends_it port x) messages) gs (g ∷ []) in
-      let left = list_any-append (λ x. x.number == q) gs (g ∷ []) in
-      rw (ended, left) (after_one (has_end port gs messages q) (has_end port (g ∷ []) messages q)
-      (is_given_up gs (Some q)) (is_given_up (g ∷ []) (Some q)) o)
 
 differ : (n q : ℕ) → (n == q) ≡ false → Some q ≡ Some n → ⊥
 differ n q isnt e = (let same : q ≡ n = cc in eqb-false n q isnt (sym same))

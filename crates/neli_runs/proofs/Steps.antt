@@ -199,21 +199,6 @@ module _ {ST SP K P V : Type 0} (type_of : ℕ → K) (number : K → ℕ) (view
         (sym (same j).list_of_handle ∙ (r ∙ (same k).list_of_handle));
   }
 
-  pub agrees_set : (port next count n : ℕ) (pending : Pending) (slots : ℕ
-      → Option (Option HandleState)) (h : History ST SP K P)
-      → n < 2 ^ 32 → Agrees type_of number view size read port next count pending slots h
-      → Agrees type_of number view size read port n count pending slots ((command.SetNextSeq n, outcome.Done) ∷ h)
-  agrees_set port next count n pending slots h small a =
-      agrees_same port next n count pending slots h _ refl (omega arith)
-      (λ k. record {
-        later = refl;
-        closed = refl;
-        items = refl;
-        deliveries = refl;
-        needs = refl;
-        list_of_handle = whose_unsent k (command.SetNextSeq n) outcome.Done h refl;
-      }) a
-
   pub agrees_unsent : (port next count : ℕ) (t : ST) (f : NlmF) (p : NlPayload ST SP) (o : Outcome ST SP K P)
       (pending : Pending) (slots : ℕ → Option (Option HandleState)) (h : History ST SP K P)
       → is_sent o ≡ false → ((k : ℕ) → items_of k ((command.Send t f p, o) ∷ h) ≡ items_of k h)

@@ -1,5 +1,5 @@
 -- An answer that was read to its end.
-use Rattle.std.specs.Prelude.{◌≡◌, ◌≤◌, ℕ, suc, ℤ, pos, Bool, true, false, List, length, take, nat_lt, Some, Result, Ok}
+use Rattle.std.specs.Prelude.{◌≡◌, ◌≤◌, ℕ, suc, pos, Bool, true, false, List, length, take, nat_lt, Some, Result, Ok}
 use Rattle.std.specs.List.{list_any, slice_get}
 use Rattle.neli_wire.specs.declared.errors.DeError.{DeError}
 use Rattle.neli_reader.specs.Framed.{Nlmsghdr}

@@ -7,7 +7,6 @@ use Rattle.std.proofs.lemmas.List.{append-nil, append_assoc}
 use Rattle.neli_wire.specs.declared.errors.DeError.{DeError}
 use Rattle.neli_deliveries.specs.declared.delivery.Delivery.{Delivery}
 use Rattle.neli_deliveries.specs.Readings.{Item}
-use Rattle.neli_router.specs.declared.handle.HandleState.{HandleState}
 use Rattle.neli_router.specs.declared.verdict.Heard.{Heard}
 use Rattle.neli_router.specs.declared.verdict.Verdict.{Verdict}
 use Rattle.neli_router.specs.declared.verdict.Verdict.TheVariants as stands
@@ -38,17 +37,6 @@ module _ {K P V : Type 0} (type_of : ℕ → K) (number_of : K → ℕ) (view : 
       → AreReads type_of number_of view size read s (xs ++ x ∷ []) u
   reads_more s t u [] x are is = (u, subst (λ (r : Stand). IsRead type_of number_of view size read r x u) are is, refl)
   reads_more s t u (y ∷ xs) x are is = (are.0, are.1, reads_more are.0 t u xs x are.2 is)
-
-  gives_less : (handle : HandleState) (waits : Option (List Delivery)) (heard : Option Heard) (x : Item K P) (t : Stand)
-      → Gives type_of number_of view size read handle waits heard x t → left t < suc (waiting waits)
-  gives_less handle None heard x t gives = rw gives.1 (omega arith)
-  gives_less handle (Some []) heard x t gives = absurd gives
-  gives_less handle (Some (d ∷ ds)) heard x t gives =
-      rw gives.3.1 (less (ends_at number_of handle.needs_ack (has_number handle.number) handle.single_given gives.0)
-      (length ds) (suc (length ds)) (omega arith))
-
-  pub read_less : (s t : Stand) (x : Item K P) → IsRead type_of number_of view size read s x t → left t < left s
-  read_less s t x is = rw is.0 (gives_less s.handle s.waits s.heard x t is.1)
 
 -- ---- by the reply rule
 

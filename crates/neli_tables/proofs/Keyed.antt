@@ -24,10 +24,6 @@ key_is key k e =
 
 -- ---- what is found once a line is noted
 
-pub none_more : (before : Option ℕ) → before ≡ option_or before None
-none_more None = refl
-none_more (Some place) = refl
-
 module _ (finds : Key → Option ℕ) (key : Key) (place : ℕ) where
   -- a line before has the key
   pub noted_before : (k : Key) (first : ℕ) → finds key ≡ Some first

@@ -3,7 +3,6 @@ use Rattle.std.proofs.Common.{Bor, get_or, ◌<◌, ◌≡◌, ◌∙◌, ℕ, �
 use Rattle.std.proofs.Common.{Option, Result}
 use Rattle.std.proofs.Common.{Ok, Err, refl, sym, ap, append_assoc}
 use mathlib.Core.Path.{fun_ext}
-use Rattle.std.proofs.lemmas.List.{append-nil}
 use Rattle.neli_tables.specs.declared.text.Worded.{Worded}
 use Rattle.neli_tables.specs.declared.why.Unread.{Unread}
 use Rattle.neli_tables.specs.declared.why.Unread.TheVariants.{Memory, Refused}
@@ -21,13 +20,6 @@ Find = Word → List ℕ → Option ℕ
 
 abbrev Outcome : Type 0
 Outcome = Result (List LineSeen) (ℕ × Why)
-
-pub before_none : (later : Outcome) → later ≡ before [] later
-before_none (Ok others) = refl
-before_none (Err refused) = refl
-
-pub before_all : (lines : List LineSeen) → before lines (Ok []) ≡ Ok lines
-before_all lines = ap Ok (append-nil lines)
 
 before_more : (lines : List LineSeen) (read : LineSeen) (later : Outcome)
     → before lines (before (read ∷ []) later) ≡ before (lines ++ read ∷ []) later

@@ -1,7 +1,7 @@
 -- The last of a list, and those before it.
-use Rattle.std.proofs.Common.{◌≡◌, ◌<◌, ◌+◌, ℕ, List, [], ◌∷◌, ◌++◌, length, take, get_or, refl, ap}
+use Rattle.std.proofs.Common.{◌≡◌, ◌<◌, ◌+◌, ℕ, List, [], ◌∷◌, ◌++◌, length, get_or, refl, ap}
 use Rattle.std.proofs.Common.{◌∙◌, arith, length-append}
-use Rattle.std.proofs.Math.Seq.{get_or-append_seam, take-append_seam}
+use Rattle.std.proofs.Math.Seq.{get_or-append_seam}
 
 module _ {A : Type 0} where
   pub last-exists : (xs : List A) → 0 < length xs
@@ -27,10 +27,3 @@ module _ {A : Type 0} where
       ap (λ (n : ℕ). get_or xs n d) (last-index xs front last i is one)
       ∙ ap (λ (l : List A). get_or l (length front) d) is
       ∙ get_or-append_seam front last [] d
-
-  pub last-front : (xs front : List A) (last : A) (i : ℕ) → xs ≡ front ++ last ∷ []
-      → i + 1 ≡ length xs → take i xs ≡ front
-  last-front xs front last i is one =
-      ap (λ (n : ℕ). take n xs) (last-index xs front last i is one)
-      ∙ ap (λ (l : List A). take (length front) l) is
-      ∙ take-append_seam front (last ∷ [])

@@ -214,14 +214,3 @@ rows-after-last m h view xs i between first done total written past is so_far =
     ap (λ l. done ++ (first ++ l)) (sym (append-nil written))
     ∙ ap (λ l. done ++ after between first l)
     (sym (ap (λ l. h (flat_map m l)) (rows-done view xs i past) ∙ is)) ∙ so_far
-
--- there is no other text
-pub rows-after-done :
-    {A B : Type 0} (m : B → List (List ℕ)) (h : List (List ℕ) → List (List ℕ)) (view : A
-    → B) (xs : List A)
-    (i : ℕ) (between first done total : List ℕ) → length xs ≤ i → h [] ≡ []
-    → done ++ after between first (h (flat_map m (drop i (map view xs)))) ≡ total → done ≡ total
-rows-after-done m h view xs i between first done total past is so_far =
-    sym (append-nil done)
-    ∙ ap (λ l. done ++ after between first l)
-    (sym (ap (λ l. h (flat_map m l)) (rows-done view xs i past) ∙ is)) ∙ so_far

@@ -11,13 +11,6 @@ pub record Counts (bytes rest : List ℕ) (count : ℕ) : Type 0 where
   pub only : (n : ℕ) → AreCounted n bytes → (m : ℕ) × AreCounted m rest × (n ≡ m + count)
   pub few : 4 * count + length rest ≤ length bytes
 
-pub Counts-none : (bytes : List ℕ) → Counts bytes bytes 0
-Counts-none bytes = record {
-  more = λ m are. subst (λ (k : ℕ). AreCounted k bytes) (omega arith) are;
-  only = λ n are. (n, are, omega arith);
-  few = omega arith;
-}
-
 -- a frame of the rest is one more
 frame_of : (rest : List ℕ) (m : ℕ) → AreCounted m rest → 0 < length rest
     → (k : ℕ) × (m ≡ suc k) × (4 ≤ little_number 2 rest) × (align (little_number 2 rest) ≤ length rest)

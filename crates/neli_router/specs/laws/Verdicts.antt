@@ -1,11 +1,11 @@
 -- How an answer stands, one delivery more at a time.
-use Rattle.std.proofs.Common.{ℕ, zero, suc, ◌≡◌, ◌≢◌, ◌≤◌, ◌<◌, ◌+◌, ◌-◌, Bool, true, false, not, ◌||◌, ◌&&◌, min, List, []}
-use Rattle.std.proofs.Common.{◌∷◌, ◌++◌, length, take, drop, Option, Some, None, Ok, Err, refl, sym, ap, ap₂, ◌∙◌, inl, inr, ◌⊎◌}
+use Rattle.std.proofs.Common.{ℕ, zero, suc, ◌≡◌, ◌≢◌, ◌≤◌, ◌<◌, ◌+◌, ◌-◌, Bool, true, false, not, ◌||◌, ◌&&◌, List, []}
+use Rattle.std.proofs.Common.{◌∷◌, ◌++◌, length, take, Option, Some, None, Ok, Err, refl, sym, ap, ap₂, ◌∙◌, inl, inr, ◌⊎◌}
 use Rattle.std.proofs.Common.{arith, length-append, pos, ℤ, subst}
 use Rattle.std.specs.Prelude.{nat_lt, if◌then◌else◌}
 use Rattle.std.specs.List.{list_any, slice_get}
 use Rattle.std.specs.Ordering.{int_eq}
-use Rattle.std.proofs.Math.Seq.{take-append-add, take-append_seam, take-length}
+use Rattle.std.proofs.Math.Seq.{take-append-add, take-append_seam}
 use Rattle.std.proofs.lemmas.Bool.Decides.{nat_tests}
 use Rattle.std.proofs.lemmas.List.{take-append-le, take_all}
 use Rattle.std.proofs.lemmas.List.Folds.{list_any-append}
@@ -18,14 +18,14 @@ use Rattle.neli_reader.specs.RouterError.TheVariants as router
 use Rattle.neli_reader.specs.SocketError.{SocketError}
 use Rattle.neli_reader.specs.SocketError.TheVariants as socket
 use Rattle.neli_deliveries.specs.Readings.{Item}
-use Rattle.neli_router.specs.Rule.{ends_alone, ends_at, is_single, item_of, last_item, last_item_of_payload}
+use Rattle.neli_router.specs.Rule.{ends_at, is_single, item_of, last_item, last_item_of_payload}
 use Rattle.neli_router.specs.Rule.{last_place, single_place}
 use Rattle.neli_router.specs.Verdicts.{code_verdict, end_code, error_verdict, fault_verdict, given_of, is_filtered}
 use Rattle.neli_router.specs.Verdicts.{is_flagged, last_given, last_verdict, verdict, verdict_at_end, verdict_with}
 use Rattle.neli_router.specs.declared.verdict.Verdict.{Verdict}
 use Rattle.neli_router.specs.declared.verdict.Verdict.TheVariants as stands
-use Rattle.neli_router.specs.laws.Places.{last_append, last_step, lt_longer, single_append, single_step, slice_front}
-use Rattle.neli_router.specs.laws.Places.{true_or_false, within_front}
+use Rattle.neli_router.specs.laws.Places.{last_append, last_step, lt_longer, single_append, single_step}
+use Rattle.neli_router.specs.laws.Places.{true_or_false}
 
 least : (n e : ℕ) → nat_lt e n ≡ false → n ≤ e
 least n e h = grind (arith, nat_tests)
