@@ -142,8 +142,17 @@ impl<'t> Tables<'t> {
     {
         match message_from(&self.tables, Some(protocol), way, first, number) {
             Some(place) => Some(place),
-            None => message_from(&self.tables, None, way, first, number),
+            None => self.common_message(way, first, number),
         }
+    }
+
+    /// The message of every protocol, as an error or the end of a dump, that has this number, goes this way, and whose
+    /// body begins with this byte: in the first table that is of every protocol and has one. A protocol's own messages
+    /// may have the same number, as the commands of generic netlink.
+    pub fn common_message(&self, way: Way, first: Option<u8>, number: u64) -> Option<MessagePlace>
+        ensures { result ≡ message_from None (way_number way) first number 0 (tables_in self.now) }
+    {
+        message_from(&self.tables, None, way, first, number)
     }
 }
 

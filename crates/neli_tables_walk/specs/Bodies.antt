@@ -12,7 +12,7 @@ use Rattle.neli_tables.specs.declared.way.Way.TheVariants.{Request, Reply}
 use Rattle.neli_tables.specs.declared.options.Options.{Options}
 use Rattle.neli_tables.specs.declared.tables.MessagePlace.{MessagePlace}
 use Rattle.neli_tables.specs.declared.tables.Tables.{Tables}
-use Rattle.neli_tables.specs.Families.{by_id, fixed_id, is_of, learnt, message_found}
+use Rattle.neli_tables.specs.Families.{by_id, fixed_id, is_of, learnt, message_found, message_from}
 use Rattle.neli_tables.specs.Families.{tables_in}
 use Rattle.neli_tables.specs.RowKeys.{way_number}
 use Rattle.neli_tables.specs.FoundRows.{message_in}
@@ -174,11 +174,10 @@ is_answer tables head =
     (head.message_type == 2 || head.message_type == 3)
     && not (counts_in_bodies tables head.protocol)
 
--- the attributes of an answer
+-- the attributes of an answer, by the tables that are of every protocol
 abbrev pub answer_in : Tables → Head → List ℕ → BodySeen
 answer_in tables head attributes =
-    placed tables
-    (message_found head.protocol (way_number Reply) None head.message_type (tables_in tables))
+    placed tables (message_from None (way_number Reply) None head.message_type 0 (tables_in tables))
     attributes
 
 -- ---- what is in a body

@@ -30,7 +30,7 @@ pub fn is_answer(tables: &Tables<'_>, head: Head) -> bool
     is_one && !counts_in_bodies(tables, head.protocol)
 }
 
-/// The attributes of an answer, as a body of the table that is of every protocol.
+/// The attributes of an answer, as a body of the first table that is of every protocol and has its message.
 pub fn answer_of<'b, 'w, 't>(
     tables: &'w Tables<'t>,
     head: Head,
@@ -38,7 +38,6 @@ pub fn answer_of<'b, 'w, 't>(
 ) -> Body<'b, 'w, 't>
     ensures { body_view result ≡ answer_in tables.now head attributes.now }
 {
-    let number = head.message_type as u64;
-    let place = tables.message(head.protocol as u64, Way::Reply, None, number);
+    let place = tables.common_message(Way::Reply, None, head.message_type as u64);
     Body::placed(tables, place, attributes)
 }

@@ -15,7 +15,7 @@ use std::test::Fail;
 /// The file of a recording, its protocol, its bytes, and what is to be printed.
 type Row = (&'static str, u16, &'static str, &'static str);
 
-const JSON: [Row; 8] = [
+const JSON: [Row; 9] = [
     (
         "0308-route-dump-neigh",
         0,
@@ -107,9 +107,22 @@ const JSON: [Row; 8] = [
         \"attributes\":[{\"number\":2,\"name\":\"CTRL_ATTR_MCAST_GRP_ID\",\"value\":16},{\"number\":1,\
         \"name\":\"CTRL_ATTR_MCAST_GRP_NAME\",\"value\":\"notify\"}]}]}]}\n",
     ),
+    (
+        "0911-generic-generic-error",
+        16,
+        "54000000020000034004000049430000eaffffff20000000150005004004000000000000\
+        1c0001004e4c415f465f4e4553544544206973206d697373696e670008000200140000000c000480080001000d000000",
+        "{\"protocol\":16,\"type\":2,\"name\":\"NLMSG_ERROR\",\"length\":84,\
+        \"flags\":[\"NLM_F_CAPPED\",\"NLM_F_ACK_TLVS\"],\"seq\":1088,\"port\":17225,\"code\":-22,\"error\":\"EINVAL\",\
+        \"meaning\":\"Invalid argument\",\"request\":{\"type\":21,\"length\":32,\
+        \"flags\":[\"NLM_F_REQUEST\",\"NLM_F_ACK\"],\"seq\":1088,\"port\":0},\"attributes\":[{\"number\":1,\
+        \"name\":\"NLMSGERR_ATTR_MSG\",\"value\":\"NLA_F_NESTED is missing\"},{\"number\":2,\
+        \"name\":\"NLMSGERR_ATTR_OFFS\",\"value\":20},{\"number\":4,\"name\":\"NLMSGERR_ATTR_POLICY\",\"nested\":true,\
+        \"attributes\":[{\"number\":1,\"name\":\"NL_POLICY_TYPE_ATTR_TYPE\",\"value\":\"nested\"}]}]}\n",
+    ),
 ];
 
-const TEXT: [Row; 6] = [
+const TEXT: [Row; 7] = [
     (
         "0821-generic-generic-family",
         16,
@@ -165,6 +178,19 @@ const TEXT: [Row; 6] = [
         NL_POLICY_TYPE_ATTR_MIN_VALUE_U 0\n    \
         NL_POLICY_TYPE_ATTR_MAX_VALUE_U 4294967295\n    \
         NL_POLICY_TYPE_ATTR_TYPE u32\n",
+    ),
+    (
+        "0964-generic-generic-error",
+        16,
+        "5c000000020000026e04000049430000edffffff20000000150005006e0400000000000002010000\
+        0c000180080001000f2700001e0001006e6f20646576696365206d617463686573206966696e6465780000000800020018000000",
+        "NLMSG_ERROR length 92 flags NLM_F_ACK_TLVS seq 1134 port 17225\n  \
+        error -19 ENODEV No such device\n  \
+        of type 21 length 32 flags NLM_F_REQUEST|NLM_F_ACK seq 1134 port 0\n    \
+        command 2 version 1\n    \
+        payload 0x0c000180080001000f270000\n  \
+        NLMSGERR_ATTR_MSG \"no device matches ifindex\"\n  \
+        NLMSGERR_ATTR_OFFS 24\n",
     ),
     (
         "a header that ends too early after a message",
