@@ -1,7 +1,7 @@
 //! A dump for C: an answer in several messages, as it grows and as its datagrams are handed out. C holds a
 //! `struct neli_kernel_dump`, which is closed if all its bytes are 0.
 //!
-//! Each call but the first returns `STATE` if the dump is closed, and changes nothing then.
+//! Each call but those that open and free it returns `STATE` if the dump is closed, and changes nothing then.
 
 ghost use Rattle.std.specs.Prelude.{◌≡◌, ◌≢◌, ◌⊎◌, IfSome, IsSome, None};
 ghost use Rattle.neli_c.specs.Asked.{reply_wire};

@@ -1,6 +1,6 @@
 //! A router for C. C holds a `struct neli_router`, which is closed if all its bytes are 0.
 //!
-//! Each call but the first returns `STATE` if the router is closed, and changes nothing then.
+//! Each call but those that open and free it returns `STATE` if the router is closed, and changes nothing then.
 
 ghost use Rattle.std.specs.Prelude.{◌≡◌, ◌≢◌, ◌⊎◌, IfSome, IsSome, None};
 ghost use Rattle.neli_c.specs.Codes.{memory, ok, state};

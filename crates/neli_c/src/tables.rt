@@ -1,6 +1,6 @@
 //! Tables of families for C. C holds a `struct neli_tables`, which is closed if all its bytes are 0.
 //!
-//! Each call but the first two returns `STATE` if the tables are closed, and changes nothing then.
+//! Each call but those that open and free them returns `STATE` if the tables are closed, and changes nothing then.
 
 ghost use Rattle.std.specs.Prelude.{◌≡◌, ◌≢◌, ◌⊎◌, IfSome, IsSome, None};
 ghost use Rattle.neli_c.specs.AnswersShown.{payload_view};
@@ -100,7 +100,7 @@ pub extern "C" fn neli_c_tables_add(
         tables.old.place.value tables.new.place.value }
     ensures unshown { result ≢ bad_table
         → (line.new ≡ line.old) × (size.new ≡ size.old) }
-    ensures silent { result ≢ bad_table → result ≢ bad_length → out.new ≡ out.old }
+    ensures unwritten { result ≢ bad_table → result ≢ bad_length → out.new ≡ out.old }
 {
     let Some(mut families) = tables.take(alloc) else {
         return STATE;

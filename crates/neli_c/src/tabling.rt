@@ -65,7 +65,7 @@ pub(crate) fn add(
     ensures code { (result ≡ ok) ⊎ (result ≡ memory) ⊎ (result ≡ bad_table) ⊎ (result ≡ bad_length) }
     ensures unshown { result ≢ bad_table
         → (line.new ≡ line.old) × (size.new ≡ size.old) }
-    ensures silent { result ≢ bad_table → result ≢ bad_length → out.new ≡ out.old }
+    ensures unwritten { result ≢ bad_table → result ≢ bad_length → out.new ≡ out.old }
 {
     match families.add(alloc, text) {
         Ok(()) => OK,
