@@ -4,13 +4,15 @@
 //! - [`bodies`]: the bodies of all families. [`payloads`]: attributes' payloads other than numbers and texts.
 //! - [`messages`]: messages, owned and lent. [`router`]: the router and the resolvers, over each store.
 //! - [`simulator`]: a kernel's answers. [`schema`]: messages by the tables of their families. [`programs`]: whole
-//!   programs.
+//!   programs. [`doors`]: what `neli_c` has behind its exports.
 #![tactic(auto)]
 
 #[cfg(test)]
 mod attributes;
 #[cfg(test)]
 mod bodies;
+#[cfg(test)]
+mod doors;
 #[cfg(test)]
 mod messages;
 #[cfg(test)]
