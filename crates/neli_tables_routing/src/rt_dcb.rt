@@ -85,7 +85,7 @@ static TEXT: &[u8] = b"\
     G 4 nest=pg\n  attr DCB_ATTR_CEE_RX_PG 5 nest=pg\n  attr DCB_ATTR_CEE_PFC 6 nest=pfc\n  attr D\
     CB_ATTR_CEE_APP_TABLE 7 nest=cee-apps\n  attr DCB_ATTR_CEE_FEAT 8 nest=features\n\nset cee-pee\
     r-apps\n  attr DCB_ATTR_CEE_PEER_APP_INFO 1 struct=dcb_peer_app_info\n  attr DCB_ATTR_CEE_PEER\
-    _APP 2 struct=dcb_app multi\n\nset cee-apps\n  attr DCB_ATTR_CEE_APP 1 nest=app multi\n";
+    _APP 2 struct=dcb_app multi\n\nset cee-apps\n  attr DCB_ATTR_APP 12 nest=app multi\n";
 
 /// The text of `tables/rt_dcb.table`.
 pub(crate) fn text() -> &'static [u8]

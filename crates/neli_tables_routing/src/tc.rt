@@ -18,9 +18,9 @@ static TEXT: &[u8] = b"\
     prefix=TCA_PEDIT_KEY_EX_HDR_TYPE_\n  value network 0\n  value eth 1\n  value ip4 2\n  value ip\
     6 3\n  value tcp 4\n  value udp 5\n\nenum pedit-command prefix=TCA_PEDIT_KEY_EX_CMD_\n  value \
     set 0\n  value add 1\n\nflags tc-cls-flags prefix=TCA_CLS_FLAGS_\n  value skip-hw 0x1\n  valu\
-    e skip-sw 0x2\n  value in-hw 0x4\n  value not-in-nw 0x8\n  value verbose 0x10\n\nflags tc-flow\
-    er-key-ctrl-flags\n  value frag 0x1\n  value firstfrag 0x2\n  value tuncsum 0x4\n  value tund\
-    f 0x8\n  value tunoam 0x10\n  value tuncrit 0x20\n\nstruct tcmsg 20\n  field tcm_family 0..1 u\
+    e skip-sw 0x2\n  value in-hw 0x4\n  value not-in-hw 8\n  value verbose 0x10\n\nflags tc-flower\
+    -key-ctrl-flags\n  value frag 0x1\n  value firstfrag 0x2\n  value tuncsum 0x4\n  value tundf 0\
+    x8\n  value tunoam 0x10\n  value tuncrit 0x20\n\nstruct tcmsg 20\n  field tcm_family 0..1 u\
     8\n  field tcm_ifindex 4..8 s32\n  field tcm_handle 8..12 u32\n  field tcm_parent 12..16 u3\
     2\n  field tcm_info 16..20 u32\n\nstruct tc_stats 40\n  field bytes 0..8 u64\n  field packets \
     8..12 u32\n  field drops 12..16 u32\n  field overlimits 16..20 u32\n  field bps 20..24 u32\n  \
@@ -259,7 +259,7 @@ static TEXT: &[u8] = b"\
     LAGS 8 u32\n  attr TCA_BPF_FLAGS_GEN 9 u32\n  attr TCA_BPF_TAG 10 bytes\n  attr TCA_BPF_ID 11 \
     u32\n\nset tc-bpf-attrs.act\n  each index nest=tc-act-attrs\n\nset tc-cake-attrs\n  attr TCA_C\
     AKE_PAD 1 pad\n  attr TCA_CAKE_BASE_RATE64 2 u64\n  attr TCA_CAKE_DIFFSERV_MODE 3 u32\n  attr \
-    TCA_CAKE_ATM 4 u32\n  attr TCA_CAKE_FLOW_MODE 5 u32\n  attr TCA_CAKE_OVERHEAD 6 u32\n  attr TC\
+    TCA_CAKE_ATM 4 u32\n  attr TCA_CAKE_FLOW_MODE 5 u32\n  attr TCA_CAKE_OVERHEAD 6 s32\n  attr TC\
     A_CAKE_RTT 7 u32\n  attr TCA_CAKE_TARGET 8 u32\n  attr TCA_CAKE_AUTORATE 9 u32\n  attr TCA_CAK\
     E_MEMORY 10 u32\n  attr TCA_CAKE_NAT 11 u32\n  attr TCA_CAKE_RAW 12 u32\n  attr TCA_CAKE_WASH \
     13 u32\n  attr TCA_CAKE_MPU 14 u32\n  attr TCA_CAKE_INGRESS 15 u32\n  attr TCA_CAKE_ACK_FILTE\
@@ -344,172 +344,173 @@ static TEXT: &[u8] = b"\
     R_KEY_CT_STATE 91 u16\n  attr TCA_FLOWER_KEY_CT_STATE_MASK 92 u16\n  attr TCA_FLOWER_KEY_CT_ZO\
     NE 93 u16\n  attr TCA_FLOWER_KEY_CT_ZONE_MASK 94 u16\n  attr TCA_FLOWER_KEY_CT_MARK 95 u32\n  \
     attr TCA_FLOWER_KEY_CT_MARK_MASK 96 u32\n  attr TCA_FLOWER_KEY_CT_LABELS 97 bytes\n  attr TCA_\
-    FLOWER_KEY_CT_LABELS_MASK 98 bytes\n  attr TCA_FLOWER_KEY_MPLS_OPTS 99 nest=tc-flower-key-mpls\
-    -opt-attrs\n  attr TCA_FLOWER_KEY_HASH 100 u32\n  attr TCA_FLOWER_KEY_HASH_MASK 101 u32\n  att\
-    r TCA_FLOWER_KEY_NUM_OF_VLANS 102 u8\n  attr TCA_FLOWER_KEY_PPPOE_SID 103 be16\n  attr TCA_FLO\
-    WER_KEY_PPP_PROTO 104 be16\n  attr TCA_FLOWER_KEY_L2TPV3_SID 105 be32\n  attr TCA_FLOWER_L2_MI\
-    SS 106 u8\n  attr TCA_FLOWER_KEY_CFM 107 nest=tc-flower-key-cfm-attrs\n  attr TCA_FLOWER_KEY_S\
-    PI 108 be32\n  attr TCA_FLOWER_KEY_SPI_MASK 109 be32\n  attr TCA_FLOWER_KEY_ENC_FLAGS 110 be3\
-    2 flags=tc-flower-key-ctrl-flags\n  attr TCA_FLOWER_KEY_ENC_FLAGS_MASK 111 be32 flags=tc-flowe\
-    r-key-ctrl-flags\n\nset tc-flower-attrs.act\n  each index nest=tc-act-attrs\n\nset tc-flower-k\
-    ey-enc-opts-attrs\n  attr TCA_FLOWER_KEY_ENC_OPTS_GENEVE 1 nest=tc-flower-key-enc-opt-geneve-a\
-    ttrs\n  attr TCA_FLOWER_KEY_ENC_OPTS_VXLAN 2 nest=tc-flower-key-enc-opt-vxlan-attrs\n  attr TC\
-    A_FLOWER_KEY_ENC_OPTS_ERSPAN 3 nest=tc-flower-key-enc-opt-erspan-attrs\n  attr TCA_FLOWER_KEY_\
-    ENC_OPTS_GTP 4 nest=tc-flower-key-enc-opt-gtp-attrs\n\nset tc-flower-key-enc-opt-geneve-attr\
-    s\n  attr TCA_FLOWER_KEY_ENC_OPT_GENEVE_CLASS 1 be16\n  attr TCA_FLOWER_KEY_ENC_OPT_GENEVE_TYP\
-    E 2 u8\n  attr TCA_FLOWER_KEY_ENC_OPT_GENEVE_DATA 3 bytes length=0..127\n\nset tc-flower-key-e\
-    nc-opt-vxlan-attrs\n  attr TCA_FLOWER_KEY_ENC_OPT_VXLAN_GBP 1 u32\n\nset tc-flower-key-enc-opt\
-    -erspan-attrs\n  attr TCA_FLOWER_KEY_ENC_OPT_ERSPAN_VER 1 u8\n  attr TCA_FLOWER_KEY_ENC_OPT_ER\
-    SPAN_INDEX 2 be32\n  attr TCA_FLOWER_KEY_ENC_OPT_ERSPAN_DIR 3 u8\n  attr TCA_FLOWER_KEY_ENC_OP\
-    T_ERSPAN_HWID 4 u8\n\nset tc-flower-key-enc-opt-gtp-attrs\n  attr TCA_FLOWER_KEY_ENC_OPT_GTP_P\
-    DU_TYPE 1 u8\n  attr TCA_FLOWER_KEY_ENC_OPT_GTP_QFI 2 u8\n\nset tc-flower-key-mpls-opt-attr\
-    s\n  attr TCA_FLOWER_KEY_MPLS_OPT_LSE_DEPTH 1 u8\n  attr TCA_FLOWER_KEY_MPLS_OPT_LSE_TTL 2 u\
-    8\n  attr TCA_FLOWER_KEY_MPLS_OPT_LSE_BOS 3 u8\n  attr TCA_FLOWER_KEY_MPLS_OPT_LSE_TC 4 u8\n  \
-    attr TCA_FLOWER_KEY_MPLS_OPT_LSE_LABEL 5 u32\n\nset tc-flower-key-cfm-attrs\n  attr TCA_FLOWER\
-    _KEY_CFM_MD_LEVEL 1 u8\n  attr TCA_FLOWER_KEY_CFM_OPCODE 2 u8\n\nset tc-fw-attrs\n  attr TCA_F\
-    W_CLASSID 1 u32\n  attr TCA_FW_POLICE 2 nest=tc-police-attrs\n  attr TCA_FW_INDEV 3 text\n  at\
-    tr TCA_FW_ACT 4 nest=tc-fw-attrs.act\n  attr TCA_FW_MASK 5 u32\n\nset tc-fw-attrs.act\n  each \
-    index nest=tc-act-attrs\n\nset tc-gred-attrs\n  attr TCA_GRED_PARMS 1 struct=tc_gred_qopt arra\
-    y\n  attr TCA_GRED_STAB 2 u8 array\n  attr TCA_GRED_DPS 3 struct=tc_gred_sopt\n  attr TCA_GRED\
-    _MAX_P 4 u32 array\n  attr TCA_GRED_LIMIT 5 u32\n  attr TCA_GRED_VQ_LIST 6 nest=tca-gred-vq-li\
-    st-attrs\n\nset tca-gred-vq-list-attrs\n  attr TCA_GRED_VQ_ENTRY 1 nest=tca-gred-vq-entry-attr\
-    s multi\n\nset tca-gred-vq-entry-attrs\n  attr TCA_GRED_VQ_PAD 1 pad\n  attr TCA_GRED_VQ_DP 2 \
-    u32\n  attr TCA_GRED_VQ_STAT_BYTES 3 u64\n  attr TCA_GRED_VQ_STAT_PACKETS 4 u32\n  attr TCA_GR\
-    ED_VQ_STAT_BACKLOG 5 u32\n  attr TCA_GRED_VQ_STAT_PROB_DROP 6 u32\n  attr TCA_GRED_VQ_STAT_PRO\
-    B_MARK 7 u32\n  attr TCA_GRED_VQ_STAT_FORCED_DROP 8 u32\n  attr TCA_GRED_VQ_STAT_FORCED_MARK \
-    9 u32\n  attr TCA_GRED_VQ_STAT_PDROP 10 u32\n  attr TCA_GRED_VQ_STAT_OTHER 11 u32\n  attr TCA_\
-    GRED_VQ_FLAGS 12 u32\n\nset tc-hfsc-attrs\n  attr TCA_HFSC_RSC 1 struct=tc_service_curve\n  at\
-    tr TCA_HFSC_FSC 2 struct=tc_service_curve\n  attr TCA_HFSC_USC 3 struct=tc_service_curve\n\nse\
-    t tc-hhf-attrs\n  attr TCA_HHF_BACKLOG_LIMIT 1 u32\n  attr TCA_HHF_QUANTUM 2 u32\n  attr TCA_H\
-    HF_HH_FLOWS_LIMIT 3 u32\n  attr TCA_HHF_RESET_TIMEOUT 4 u32\n  attr TCA_HHF_ADMIT_BYTES 5 u3\
-    2\n  attr TCA_HHF_EVICT_TIMEOUT 6 u32\n  attr TCA_HHF_NON_HH_WEIGHT 7 u32\n\nset tc-htb-attr\
-    s\n  attr TCA_HTB_PARMS 1 struct=tc_htb_opt\n  attr TCA_HTB_INIT 2 struct=tc_htb_glob\n  attr \
-    TCA_HTB_CTAB 3 u32 array\n  attr TCA_HTB_RTAB 4 u32 array\n  attr TCA_HTB_DIRECT_QLEN 5 u3\
-    2\n  attr TCA_HTB_RATE64 6 u64\n  attr TCA_HTB_CEIL64 7 u64\n  attr TCA_HTB_PAD 8 pad\n  attr \
-    TCA_HTB_OFFLOAD 9 flag\n\nset tc-matchall-attrs\n  attr TCA_MATCHALL_CLASSID 1 u32\n  attr TCA\
-    _MATCHALL_ACT 2 nest=tc-matchall-attrs.act\n  attr TCA_MATCHALL_FLAGS 3 u32\n  attr TCA_MATCHA\
-    LL_PCNT 4 struct=tc_matchall_pcnt\n  attr TCA_MATCHALL_PAD 5 pad\n\nset tc-matchall-attrs.ac\
-    t\n  each index nest=tc-act-attrs\n\nset tc-etf-attrs\n  attr TCA_ETF_PARMS 1 struct=tc_etf_qo\
-    pt\n\nset tc-ets-attrs\n  attr TCA_ETS_NBANDS 1 u8\n  attr TCA_ETS_NSTRICT 2 u8\n  attr TCA_ET\
-    S_QUANTA 3 nest=tc-ets-attrs\n  attr TCA_ETS_QUANTA_BAND 4 u32 multi\n  attr TCA_ETS_PRIOMAP \
-    5 nest=tc-ets-attrs\n  attr TCA_ETS_PRIOMAP_BAND 6 u8 multi\n\nset tc-fq-attrs\n  attr TCA_FQ_\
-    PLIMIT 1 u32\n  attr TCA_FQ_FLOW_PLIMIT 2 u32\n  attr TCA_FQ_QUANTUM 3 u32\n  attr TCA_FQ_INIT\
-    IAL_QUANTUM 4 u32\n  attr TCA_FQ_RATE_ENABLE 5 u32\n  attr TCA_FQ_FLOW_DEFAULT_RATE 6 u32\n  a\
-    ttr TCA_FQ_FLOW_MAX_RATE 7 u32\n  attr TCA_FQ_BUCKETS_LOG 8 u32\n  attr TCA_FQ_FLOW_REFILL_DEL\
-    AY 9 u32\n  attr TCA_FQ_ORPHAN_MASK 10 u32\n  attr TCA_FQ_LOW_RATE_THRESHOLD 11 u32\n  attr TC\
-    A_FQ_CE_THRESHOLD 12 u32\n  attr TCA_FQ_TIMER_SLACK 13 u32\n  attr TCA_FQ_HORIZON 14 u32\n  at\
-    tr TCA_FQ_HORIZON_DROP 15 u8\n  attr TCA_FQ_PRIOMAP 16 struct=tc_prio_qopt\n  attr TCA_FQ_WEIG\
-    HTS 17 s32 array\n\nset tc-fq-codel-attrs\n  attr TCA_FQ_CODEL_TARGET 1 u32\n  attr TCA_FQ_COD\
-    EL_LIMIT 2 u32\n  attr TCA_FQ_CODEL_INTERVAL 3 u32\n  attr TCA_FQ_CODEL_ECN 4 u32\n  attr TCA_\
-    FQ_CODEL_FLOWS 5 u32\n  attr TCA_FQ_CODEL_QUANTUM 6 u32\n  attr TCA_FQ_CODEL_CE_THRESHOLD 7 u3\
-    2\n  attr TCA_FQ_CODEL_DROP_BATCH_SIZE 8 u32\n  attr TCA_FQ_CODEL_MEMORY_LIMIT 9 u32\n  attr T\
-    CA_FQ_CODEL_CE_THRESHOLD_SELECTOR 10 u8\n  attr TCA_FQ_CODEL_CE_THRESHOLD_MASK 11 u8\n\nset tc\
-    -fq-pie-attrs\n  attr TCA_FQ_PIE_LIMIT 1 u32\n  attr TCA_FQ_PIE_FLOWS 2 u32\n  attr TCA_FQ_PIE\
-    _TARGET 3 u32\n  attr TCA_FQ_PIE_TUPDATE 4 u32\n  attr TCA_FQ_PIE_ALPHA 5 u32\n  attr TCA_FQ_P\
-    IE_BETA 6 u32\n  attr TCA_FQ_PIE_QUANTUM 7 u32\n  attr TCA_FQ_PIE_MEMORY_LIMIT 8 u32\n  attr T\
-    CA_FQ_PIE_ECN_PROB 9 u32\n  attr TCA_FQ_PIE_ECN 10 u32\n  attr TCA_FQ_PIE_BYTEMODE 11 u32\n  a\
-    ttr TCA_FQ_PIE_DQ_RATE_ESTIMATOR 12 u32\n\nset tc-netem-attrs\n  attr TCA_NETEM_CORR 1 struct=\
-    tc_netem_corr\n  attr TCA_NETEM_DELAY_DIST 2 s16 array\n  attr TCA_NETEM_REORDER 3 struct=tc_n\
-    etem_reorder\n  attr TCA_NETEM_CORRUPT 4 struct=tc_netem_corrupt\n  attr TCA_NETEM_LOSS 5 nest\
-    =tc-netem-loss-attrs\n  attr TCA_NETEM_RATE 6 struct=tc_netem_rate\n  attr TCA_NETEM_ECN 7 u3\
-    2\n  attr TCA_NETEM_RATE64 8 u64\n  attr TCA_NETEM_PAD 9 u32\n  attr TCA_NETEM_LATENCY64 10 s6\
-    4\n  attr TCA_NETEM_JITTER64 11 s64\n  attr TCA_NETEM_SLOT 12 struct=tc_netem_slot\n  attr TCA\
-    _NETEM_SLOT_DIST 13 s16 array\n  attr TCA_NETEM_PRNG_SEED 14 u64\n\nset tc-netem-loss-attr\
-    s\n  attr NETEM_LOSS_GI 1 struct=tc_netem_gimodel\n  attr NETEM_LOSS_GE 2 struct=tc_netem_gemo\
-    del\n\nset tc-pie-attrs\n  attr TCA_PIE_TARGET 1 u32\n  attr TCA_PIE_LIMIT 2 u32\n  attr TCA_P\
-    IE_TUPDATE 3 u32\n  attr TCA_PIE_ALPHA 4 u32\n  attr TCA_PIE_BETA 5 u32\n  attr TCA_PIE_ECN 6 \
-    u32\n  attr TCA_PIE_BYTEMODE 7 u32\n  attr TCA_PIE_DQ_RATE_ESTIMATOR 8 u32\n\nset tc-police-at\
-    trs\n  attr TCA_POLICE_TBF 1 struct=tc_police\n  attr TCA_POLICE_RATE 2 u32 array\n  attr TCA_\
-    POLICE_PEAKRATE 3 u32 array\n  attr TCA_POLICE_AVRATE 4 u32\n  attr TCA_POLICE_RESULT 5 u3\
-    2\n  attr TCA_POLICE_TM 6 struct=tcf_t\n  attr TCA_POLICE_PAD 7 pad\n  attr TCA_POLICE_RATE64 \
-    8 u64\n  attr TCA_POLICE_PEAKRATE64 9 u64\n  attr TCA_POLICE_PKTRATE64 10 u64\n  attr TCA_POLI\
-    CE_PKTBURST64 11 u64\n\nset tc-qfq-attrs\n  attr TCA_QFQ_WEIGHT 1 u32\n  attr TCA_QFQ_LMAX 2 u\
-    32\n\nset tc-red-attrs\n  attr TCA_RED_PARMS 1 struct=tc_red_qopt\n  attr TCA_RED_STAB 2 byte\
-    s\n  attr TCA_RED_MAX_P 3 u32\n  attr TCA_RED_FLAGS 4 bits\n  attr TCA_RED_EARLY_DROP_BLOCK 5 \
-    u32\n  attr TCA_RED_MARK_BLOCK 6 u32\n\nset tc-route-attrs\n  attr TCA_ROUTE4_CLASSID 1 u3\
-    2\n  attr TCA_ROUTE4_TO 2 u32\n  attr TCA_ROUTE4_FROM 3 u32\n  attr TCA_ROUTE4_IIF 4 u32\n  at\
-    tr TCA_ROUTE4_POLICE 5 nest=tc-police-attrs\n  attr TCA_ROUTE4_ACT 6 nest=tc-route-attrs.ac\
-    t\n\nset tc-route-attrs.act\n  each index nest=tc-act-attrs\n\nset tc-taprio-attrs\n  attr TCA\
-    _TAPRIO_ATTR_PRIOMAP 1 struct=tc_mqprio_qopt\n  attr TCA_TAPRIO_ATTR_SCHED_ENTRY_LIST 2 nest=t\
-    c-taprio-sched-entry-list\n  attr TCA_TAPRIO_ATTR_SCHED_BASE_TIME 3 s64\n  attr TCA_TAPRIO_ATT\
-    R_SCHED_SINGLE_ENTRY 4 nest=tc-taprio-sched-entry\n  attr TCA_TAPRIO_ATTR_SCHED_CLOCKID 5 s3\
-    2\n  attr TCA_TAPRIO_PAD 6 pad\n  attr TCA_TAPRIO_ATTR_ADMIN_SCHED 7 nest=tc-taprio-attrs\n  a\
-    ttr TCA_TAPRIO_ATTR_SCHED_CYCLE_TIME 8 s64\n  attr TCA_TAPRIO_ATTR_SCHED_CYCLE_TIME_EXTENSION \
-    9 s64\n  attr TCA_TAPRIO_ATTR_FLAGS 10 u32\n  attr TCA_TAPRIO_ATTR_TXTIME_DELAY 11 u32\n  att\
-    r TCA_TAPRIO_ATTR_TC_ENTRY 12 nest=tc-taprio-tc-entry-attrs\n\nset tc-taprio-sched-entry-lis\
-    t\n  attr TCA_TAPRIO_SCHED_ENTRY 1 nest=tc-taprio-sched-entry multi\n\nset tc-taprio-sched-ent\
-    ry\n  attr TCA_TAPRIO_SCHED_ENTRY_INDEX 1 u32\n  attr TCA_TAPRIO_SCHED_ENTRY_CMD 2 u8\n  attr \
-    TCA_TAPRIO_SCHED_ENTRY_GATE_MASK 3 u32\n  attr TCA_TAPRIO_SCHED_ENTRY_INTERVAL 4 u32\n\nset tc\
-    -taprio-tc-entry-attrs\n  attr TCA_TAPRIO_TC_ENTRY_INDEX 1 u32\n  attr TCA_TAPRIO_TC_ENTRY_MAX\
-    _SDU 2 u32\n  attr TCA_TAPRIO_TC_ENTRY_FP 3 u32\n\nset tc-tbf-attrs\n  attr TCA_TBF_PARMS 1 st\
-    ruct=tc_tbf_qopt\n  attr TCA_TBF_RTAB 2 u32 array\n  attr TCA_TBF_PTAB 3 u32 array\n  attr TCA\
-    _TBF_RATE64 4 u64\n  attr TCA_TBF_PRATE64 5 u64\n  attr TCA_TBF_BURST 6 u32\n  attr TCA_TBF_PB\
-    URST 7 u32\n  attr TCA_TBF_PAD 8 pad\n\nset tc-act-sample-attrs\n  attr TCA_SAMPLE_TM 1 struct\
-    =tcf_t\n  attr TCA_SAMPLE_PARMS 2 struct=tc_gen\n  attr TCA_SAMPLE_RATE 3 u32\n  attr TCA_SAMP\
-    LE_TRUNC_SIZE 4 u32\n  attr TCA_SAMPLE_PSAMPLE_GROUP 5 u32\n  attr TCA_SAMPLE_PAD 6 pad\n\nse\
-    t tc-act-gact-attrs\n  attr TCA_GACT_TM 1 struct=tcf_t\n  attr TCA_GACT_PARMS 2 struct=tc_ge\
-    n\n  attr TCA_GACT_PROB 3 struct=tc_gact_p\n  attr TCA_GACT_PAD 4 pad\n\nset tca-stab-attr\
-    s\n  attr TCA_STAB_BASE 1 struct=tc_sizespec\n  attr TCA_STAB_DATA 2 u16 array\n\nset tca-stat\
-    s-attrs\n  attr TCA_STATS_BASIC 1 struct=gnet_stats_basic\n  attr TCA_STATS_RATE_EST 2 struct=\
-    gnet_stats_rate_est\n  attr TCA_STATS_QUEUE 3 struct=gnet_stats_queue\n  attr TCA_STATS_APP 4 \
-    choice=tca-stats-app-msg by=TCA_KIND\n  attr TCA_STATS_RATE_EST64 5 struct=gnet_stats_rate_est\
-    64\n  attr TCA_STATS_PAD 6 pad\n  attr TCA_STATS_BASIC_HW 7 struct=gnet_stats_basic\n  attr TC\
-    A_STATS_PKT64 8 u64\n\nset tc-u32-attrs\n  attr TCA_U32_CLASSID 1 u32\n  attr TCA_U32_HASH 2 u\
-    32\n  attr TCA_U32_LINK 3 u32\n  attr TCA_U32_DIVISOR 4 u32\n  attr TCA_U32_SEL 5 struct=tc_u3\
-    2_sel\n  attr TCA_U32_POLICE 6 nest=tc-police-attrs\n  attr TCA_U32_ACT 7 nest=tc-u32-attrs.ac\
-    t\n  attr TCA_U32_INDEV 8 text\n  attr TCA_U32_PCNT 9 struct=tc_u32_pcnt\n  attr TCA_U32_MARK \
-    10 struct=tc_u32_mark\n  attr TCA_U32_FLAGS 11 u32\n  attr TCA_U32_PAD 12 pad\n\nset tc-u32-at\
-    trs.act\n  each index nest=tc-act-attrs\n\nset action-root\n  attr TCA_ROOT_TAB 1 nest=action\
-    s\n  attr TCA_ROOT_FLAGS 2 bits\n  attr TCA_ROOT_COUNT 3 u32\n  attr TCA_ROOT_TIME_DELTA 4 u3\
-    2\n  attr TCA_ROOT_EXT_WARN_MSG 5 text\n\nset actions\n  each action nest=tc-act-attrs\n\nset \
-    tunnel-key-options\n  attr TCA_TUNNEL_KEY_ENC_OPTS_GENEVE 1 nest=tunnel-key-geneve multi\n  at\
-    tr TCA_TUNNEL_KEY_ENC_OPTS_VXLAN 2 nest=tunnel-key-vxlan\n  attr TCA_TUNNEL_KEY_ENC_OPTS_ERSPA\
-    N 3 nest=tunnel-key-erspan\n\nset tunnel-key-geneve\n  attr TCA_TUNNEL_KEY_ENC_OPT_GENEVE_CLAS\
-    S 1 be16\n  attr TCA_TUNNEL_KEY_ENC_OPT_GENEVE_TYPE 2 u8\n  attr TCA_TUNNEL_KEY_ENC_OPT_GENEVE\
-    _DATA 3 bytes length=0..127\n\nset tunnel-key-vxlan\n  attr TCA_TUNNEL_KEY_ENC_OPT_VXLAN_GBP \
-    1 u32\n\nset tunnel-key-erspan\n  attr TCA_TUNNEL_KEY_ENC_OPT_ERSPAN_VER 1 u8\n  attr TCA_TUNN\
-    EL_KEY_ENC_OPT_ERSPAN_INDEX 2 be32\n  attr TCA_TUNNEL_KEY_ENC_OPT_ERSPAN_DIR 3 u8\n  attr TCA_\
-    TUNNEL_KEY_ENC_OPT_ERSPAN_HWID 4 u8\n\nset sfb\n  attr TCA_SFB_PARMS 1 struct=tc_sfb_qopt\n\ns\
-    et mqprio\n  attr TCA_MQPRIO_MODE 1 u16\n  attr TCA_MQPRIO_SHAPER 2 u16\n  attr TCA_MQPRIO_MIN\
-    _RATE64 3 nest=mqprio-least-rates\n  attr TCA_MQPRIO_MAX_RATE64 4 nest=mqprio-largest-rate\
-    s\n  attr TCA_MQPRIO_TC_ENTRY 5 nest=mqprio-entry multi\n\nset mqprio-least-rates\n  attr TCA_\
-    MQPRIO_MIN_RATE64 3 u64 multi\n\nset mqprio-largest-rates\n  attr TCA_MQPRIO_MAX_RATE64 4 u64 \
-    multi\n\nset mqprio-entry\n  attr TCA_MQPRIO_TC_ENTRY_INDEX 1 u32\n  attr TCA_MQPRIO_TC_ENTRY_\
-    FP 2 u32\n\nset gate-entries\n  attr TCA_GATE_ONE_ENTRY 1 nest=gate-entry multi\n\nset gate-en\
-    try\n  attr TCA_GATE_ENTRY_INDEX 1 u32\n  attr TCA_GATE_ENTRY_GATE 2 flag\n  attr TCA_GATE_ENT\
-    RY_INTERVAL 3 u32\n  attr TCA_GATE_ENTRY_IPV 4 s32\n  attr TCA_GATE_ENTRY_MAX_OCTETS 5 s32\n\n\
-    set pedit-keys\n  attr TCA_PEDIT_KEY_EX 6 nest=pedit-key multi\n\nset pedit-key\n  attr TCA_PE\
-    DIT_KEY_EX_HTYPE 1 u16 enum=pedit-header\n  attr TCA_PEDIT_KEY_EX_CMD 2 u16 enum=pedit-comman\
-    d\n\nset ematches\n  each match bytes\n\nchoice tc-options-msg\n  case basic nest=tc-basic-att\
-    rs\n  case bpf nest=tc-bpf-attrs\n  case bfifo struct=tc_fifo_qopt\n  case cake nest=tc-cake-a\
-    ttrs\n  case cbs nest=tc-cbs-attrs\n  case cgroup nest=tc-cgroup-attrs\n  case choke nest=tc-c\
-    hoke-attrs\n  case clsact bytes\n  case codel nest=tc-codel-attrs\n  case drr nest=tc-drr-attr\
-    s\n  case etf nest=tc-etf-attrs\n  case ets nest=tc-ets-attrs\n  case flow nest=tc-flow-attr\
-    s\n  case flower nest=tc-flower-attrs\n  case fq nest=tc-fq-attrs\n  case fq_codel nest=tc-fq-\
-    codel-attrs\n  case fq_pie nest=tc-fq-pie-attrs\n  case fw nest=tc-fw-attrs\n  case gred nest=\
-    tc-gred-attrs\n  case hfsc struct=tc_hfsc_qopt\n  case hhf nest=tc-hhf-attrs\n  case htb nest=\
-    tc-htb-attrs\n  case ingress bytes\n  case matchall nest=tc-matchall-attrs\n  case mq byte\
-    s\n  case mqprio nest=mqprio after=tc_mqprio_qopt\n  case multiq struct=tc_multiq_qopt\n  cas\
-    e netem nest=tc-netem-attrs after=tc_netem_qopt\n  case pfifo struct=tc_fifo_qopt\n  case pfif\
-    o_fast struct=tc_prio_qopt\n  case pfifo_head_drop struct=tc_fifo_qopt\n  case pie nest=tc-pie\
-    -attrs\n  case plug struct=tc_plug_qopt\n  case prio struct=tc_prio_qopt\n  case qfq nest=tc-q\
-    fq-attrs\n  case red nest=tc-red-attrs\n  case route nest=tc-route-attrs\n  case sfb nest=sf\
-    b\n  case sfq struct=tc_sfq_qopt_v1\n  case taprio nest=tc-taprio-attrs\n  case tbf nest=tc-tb\
-    f-attrs\n  case u32 nest=tc-u32-attrs\n\nchoice tc-act-options-msg\n  case bpf nest=tc-act-bpf\
-    -attrs\n  case connmark nest=tc-act-connmark-attrs\n  case csum nest=tc-act-csum-attrs\n  cas\
-    e ct nest=tc-act-ct-attrs\n  case ctinfo nest=tc-act-ctinfo-attrs\n  case gact nest=tc-act-gac\
-    t-attrs\n  case gate nest=tc-act-gate-attrs\n  case ife nest=tc-act-ife-attrs\n  case mirred n\
-    est=tc-act-mirred-attrs\n  case mpls nest=tc-act-mpls-attrs\n  case nat nest=tc-act-nat-attr\
-    s\n  case pedit nest=tc-act-pedit-attrs\n  case police nest=tc-act-police-attrs\n  case sampl\
-    e nest=tc-act-sample-attrs\n  case simple nest=tc-act-simple-attrs\n  case skbedit nest=tc-act\
-    -skbedit-attrs\n  case skbmod nest=tc-act-skbmod-attrs\n  case tunnel_key nest=tc-act-tunnel-k\
-    ey-attrs\n  case vlan nest=tc-act-vlan-attrs\n\nchoice tca-stats-app-msg\n  case cake nest=tc-\
-    cake-stats-attrs\n  case choke struct=tc_choke_xstats\n  case codel struct=tc_codel_xstats\n  \
-    case fq struct=tc_fq_qd_stats\n  case fq_codel struct=tc_fq_codel_xstats\n  case fq_pie struct\
-    =tc_fq_pie_xstats\n  case hhf struct=tc_hhf_xstats\n  case pie struct=tc_pie_xstats\n  case re\
-    d struct=tc_red_xstats\n  case sfb struct=tc_sfb_xstats\n  case sfq struct=tc_sfq_xstats\n  ca\
-    se htb struct=tc_htb_xstats\n  case hfsc struct=tc_hfsc_stats\n  case drr struct=tc_drr_stat\
-    s\n  case qfq struct=tc_qfq_stats\n";
+    FLOWER_KEY_CT_LABELS_MASK 98 bytes\n  attr TCA_FLOWER_KEY_MPLS_OPTS 99 nest=mpls-options\n  at\
+    tr TCA_FLOWER_KEY_HASH 100 u32\n  attr TCA_FLOWER_KEY_HASH_MASK 101 u32\n  attr TCA_FLOWER_KEY\
+    _NUM_OF_VLANS 102 u8\n  attr TCA_FLOWER_KEY_PPPOE_SID 103 be16\n  attr TCA_FLOWER_KEY_PPP_PROT\
+    O 104 be16\n  attr TCA_FLOWER_KEY_L2TPV3_SID 105 be32\n  attr TCA_FLOWER_L2_MISS 106 u8\n  att\
+    r TCA_FLOWER_KEY_CFM 107 nest=tc-flower-key-cfm-attrs\n  attr TCA_FLOWER_KEY_SPI 108 be32\n  a\
+    ttr TCA_FLOWER_KEY_SPI_MASK 109 be32\n  attr TCA_FLOWER_KEY_ENC_FLAGS 110 be32 flags=tc-flower\
+    -key-ctrl-flags\n  attr TCA_FLOWER_KEY_ENC_FLAGS_MASK 111 be32 flags=tc-flower-key-ctrl-flag\
+    s\n\nset tc-flower-attrs.act\n  each index nest=tc-act-attrs\n\nset tc-flower-key-enc-opts-att\
+    rs\n  attr TCA_FLOWER_KEY_ENC_OPTS_GENEVE 1 nest=tc-flower-key-enc-opt-geneve-attrs\n  attr TC\
+    A_FLOWER_KEY_ENC_OPTS_VXLAN 2 nest=tc-flower-key-enc-opt-vxlan-attrs\n  attr TCA_FLOWER_KEY_EN\
+    C_OPTS_ERSPAN 3 nest=tc-flower-key-enc-opt-erspan-attrs\n  attr TCA_FLOWER_KEY_ENC_OPTS_GTP 4 \
+    nest=tc-flower-key-enc-opt-gtp-attrs\n\nset tc-flower-key-enc-opt-geneve-attrs\n  attr TCA_FLO\
+    WER_KEY_ENC_OPT_GENEVE_CLASS 1 be16\n  attr TCA_FLOWER_KEY_ENC_OPT_GENEVE_TYPE 2 u8\n  attr TC\
+    A_FLOWER_KEY_ENC_OPT_GENEVE_DATA 3 bytes length=0..127\n\nset tc-flower-key-enc-opt-vxlan-attr\
+    s\n  attr TCA_FLOWER_KEY_ENC_OPT_VXLAN_GBP 1 u32\n\nset tc-flower-key-enc-opt-erspan-attrs\n  \
+    attr TCA_FLOWER_KEY_ENC_OPT_ERSPAN_VER 1 u8\n  attr TCA_FLOWER_KEY_ENC_OPT_ERSPAN_INDEX 2 be3\
+    2\n  attr TCA_FLOWER_KEY_ENC_OPT_ERSPAN_DIR 3 u8\n  attr TCA_FLOWER_KEY_ENC_OPT_ERSPAN_HWID 4 \
+    u8\n\nset tc-flower-key-enc-opt-gtp-attrs\n  attr TCA_FLOWER_KEY_ENC_OPT_GTP_PDU_TYPE 1 u8\n  \
+    attr TCA_FLOWER_KEY_ENC_OPT_GTP_QFI 2 u8\n\nset tc-flower-key-mpls-opt-attrs\n  attr TCA_FLOWE\
+    R_KEY_MPLS_OPT_LSE_DEPTH 1 u8\n  attr TCA_FLOWER_KEY_MPLS_OPT_LSE_TTL 2 u8\n  attr TCA_FLOWER_\
+    KEY_MPLS_OPT_LSE_BOS 3 u8\n  attr TCA_FLOWER_KEY_MPLS_OPT_LSE_TC 4 u8\n  attr TCA_FLOWER_KEY_M\
+    PLS_OPT_LSE_LABEL 5 u32\n\nset tc-flower-key-cfm-attrs\n  attr TCA_FLOWER_KEY_CFM_MD_LEVEL 1 u\
+    8\n  attr TCA_FLOWER_KEY_CFM_OPCODE 2 u8\n\nset tc-fw-attrs\n  attr TCA_FW_CLASSID 1 u32\n  at\
+    tr TCA_FW_POLICE 2 nest=tc-police-attrs\n  attr TCA_FW_INDEV 3 text\n  attr TCA_FW_ACT 4 nest=\
+    tc-fw-attrs.act\n  attr TCA_FW_MASK 5 u32\n\nset tc-fw-attrs.act\n  each index nest=tc-act-att\
+    rs\n\nset tc-gred-attrs\n  attr TCA_GRED_PARMS 1 struct=tc_gred_qopt array\n  attr TCA_GRED_ST\
+    AB 2 u8 array\n  attr TCA_GRED_DPS 3 struct=tc_gred_sopt\n  attr TCA_GRED_MAX_P 4 u32 arra\
+    y\n  attr TCA_GRED_LIMIT 5 u32\n  attr TCA_GRED_VQ_LIST 6 nest=tca-gred-vq-list-attrs\n\nset t\
+    ca-gred-vq-list-attrs\n  attr TCA_GRED_VQ_ENTRY 1 nest=tca-gred-vq-entry-attrs multi\n\nset tc\
+    a-gred-vq-entry-attrs\n  attr TCA_GRED_VQ_PAD 1 pad\n  attr TCA_GRED_VQ_DP 2 u32\n  attr TCA_G\
+    RED_VQ_STAT_BYTES 3 u64\n  attr TCA_GRED_VQ_STAT_PACKETS 4 u32\n  attr TCA_GRED_VQ_STAT_BACKLO\
+    G 5 u32\n  attr TCA_GRED_VQ_STAT_PROB_DROP 6 u32\n  attr TCA_GRED_VQ_STAT_PROB_MARK 7 u32\n  a\
+    ttr TCA_GRED_VQ_STAT_FORCED_DROP 8 u32\n  attr TCA_GRED_VQ_STAT_FORCED_MARK 9 u32\n  attr TCA_\
+    GRED_VQ_STAT_PDROP 10 u32\n  attr TCA_GRED_VQ_STAT_OTHER 11 u32\n  attr TCA_GRED_VQ_FLAGS 12 u\
+    32\n\nset tc-hfsc-attrs\n  attr TCA_HFSC_RSC 1 struct=tc_service_curve\n  attr TCA_HFSC_FSC 2 \
+    struct=tc_service_curve\n  attr TCA_HFSC_USC 3 struct=tc_service_curve\n\nset tc-hhf-attrs\n  \
+    attr TCA_HHF_BACKLOG_LIMIT 1 u32\n  attr TCA_HHF_QUANTUM 2 u32\n  attr TCA_HHF_HH_FLOWS_LIMIT \
+    3 u32\n  attr TCA_HHF_RESET_TIMEOUT 4 u32\n  attr TCA_HHF_ADMIT_BYTES 5 u32\n  attr TCA_HHF_EV\
+    ICT_TIMEOUT 6 u32\n  attr TCA_HHF_NON_HH_WEIGHT 7 u32\n\nset tc-htb-attrs\n  attr TCA_HTB_PARM\
+    S 1 struct=tc_htb_opt\n  attr TCA_HTB_INIT 2 struct=tc_htb_glob\n  attr TCA_HTB_CTAB 3 u32 arr\
+    ay\n  attr TCA_HTB_RTAB 4 u32 array\n  attr TCA_HTB_DIRECT_QLEN 5 u32\n  attr TCA_HTB_RATE64 \
+    6 u64\n  attr TCA_HTB_CEIL64 7 u64\n  attr TCA_HTB_PAD 8 pad\n  attr TCA_HTB_OFFLOAD 9 fla\
+    g\n\nset tc-matchall-attrs\n  attr TCA_MATCHALL_CLASSID 1 u32\n  attr TCA_MATCHALL_ACT 2 nest=\
+    tc-matchall-attrs.act\n  attr TCA_MATCHALL_FLAGS 3 u32\n  attr TCA_MATCHALL_PCNT 4 struct=tc_m\
+    atchall_pcnt\n  attr TCA_MATCHALL_PAD 5 pad\n\nset tc-matchall-attrs.act\n  each index nest=tc\
+    -act-attrs\n\nset tc-etf-attrs\n  attr TCA_ETF_PARMS 1 struct=tc_etf_qopt\n\nset tc-ets-attr\
+    s\n  attr TCA_ETS_NBANDS 1 u8\n  attr TCA_ETS_NSTRICT 2 u8\n  attr TCA_ETS_QUANTA 3 nest=tc-et\
+    s-attrs\n  attr TCA_ETS_QUANTA_BAND 4 u32 multi\n  attr TCA_ETS_PRIOMAP 5 nest=tc-ets-attr\
+    s\n  attr TCA_ETS_PRIOMAP_BAND 6 u8 multi\n\nset tc-fq-attrs\n  attr TCA_FQ_PLIMIT 1 u32\n  at\
+    tr TCA_FQ_FLOW_PLIMIT 2 u32\n  attr TCA_FQ_QUANTUM 3 u32\n  attr TCA_FQ_INITIAL_QUANTUM 4 u3\
+    2\n  attr TCA_FQ_RATE_ENABLE 5 u32\n  attr TCA_FQ_FLOW_DEFAULT_RATE 6 u32\n  attr TCA_FQ_FLOW_\
+    MAX_RATE 7 u32\n  attr TCA_FQ_BUCKETS_LOG 8 u32\n  attr TCA_FQ_FLOW_REFILL_DELAY 9 u32\n  att\
+    r TCA_FQ_ORPHAN_MASK 10 u32\n  attr TCA_FQ_LOW_RATE_THRESHOLD 11 u32\n  attr TCA_FQ_CE_THRESHO\
+    LD 12 u32\n  attr TCA_FQ_TIMER_SLACK 13 u32\n  attr TCA_FQ_HORIZON 14 u32\n  attr TCA_FQ_HORIZ\
+    ON_DROP 15 u8\n  attr TCA_FQ_PRIOMAP 16 struct=tc_prio_qopt\n  attr TCA_FQ_WEIGHTS 17 s32 arra\
+    y\n\nset tc-fq-codel-attrs\n  attr TCA_FQ_CODEL_TARGET 1 u32\n  attr TCA_FQ_CODEL_LIMIT 2 u3\
+    2\n  attr TCA_FQ_CODEL_INTERVAL 3 u32\n  attr TCA_FQ_CODEL_ECN 4 u32\n  attr TCA_FQ_CODEL_FLOW\
+    S 5 u32\n  attr TCA_FQ_CODEL_QUANTUM 6 u32\n  attr TCA_FQ_CODEL_CE_THRESHOLD 7 u32\n  attr TCA\
+    _FQ_CODEL_DROP_BATCH_SIZE 8 u32\n  attr TCA_FQ_CODEL_MEMORY_LIMIT 9 u32\n  attr TCA_FQ_CODEL_C\
+    E_THRESHOLD_SELECTOR 10 u8\n  attr TCA_FQ_CODEL_CE_THRESHOLD_MASK 11 u8\n\nset tc-fq-pie-attr\
+    s\n  attr TCA_FQ_PIE_LIMIT 1 u32\n  attr TCA_FQ_PIE_FLOWS 2 u32\n  attr TCA_FQ_PIE_TARGET 3 u3\
+    2\n  attr TCA_FQ_PIE_TUPDATE 4 u32\n  attr TCA_FQ_PIE_ALPHA 5 u32\n  attr TCA_FQ_PIE_BETA 6 u3\
+    2\n  attr TCA_FQ_PIE_QUANTUM 7 u32\n  attr TCA_FQ_PIE_MEMORY_LIMIT 8 u32\n  attr TCA_FQ_PIE_EC\
+    N_PROB 9 u32\n  attr TCA_FQ_PIE_ECN 10 u32\n  attr TCA_FQ_PIE_BYTEMODE 11 u32\n  attr TCA_FQ_P\
+    IE_DQ_RATE_ESTIMATOR 12 u32\n\nset tc-netem-attrs\n  attr TCA_NETEM_CORR 1 struct=tc_netem_cor\
+    r\n  attr TCA_NETEM_DELAY_DIST 2 s16 array\n  attr TCA_NETEM_REORDER 3 struct=tc_netem_reorde\
+    r\n  attr TCA_NETEM_CORRUPT 4 struct=tc_netem_corrupt\n  attr TCA_NETEM_LOSS 5 nest=tc-netem-l\
+    oss-attrs\n  attr TCA_NETEM_RATE 6 struct=tc_netem_rate\n  attr TCA_NETEM_ECN 7 u32\n  attr TC\
+    A_NETEM_RATE64 8 u64\n  attr TCA_NETEM_PAD 9 pad\n  attr TCA_NETEM_LATENCY64 10 s64\n  attr TC\
+    A_NETEM_JITTER64 11 s64\n  attr TCA_NETEM_SLOT 12 struct=tc_netem_slot\n  attr TCA_NETEM_SLOT_\
+    DIST 13 s16 array\n  attr TCA_NETEM_PRNG_SEED 14 u64\n\nset tc-netem-loss-attrs\n  attr NETEM_\
+    LOSS_GI 1 struct=tc_netem_gimodel\n  attr NETEM_LOSS_GE 2 struct=tc_netem_gemodel\n\nset tc-pi\
+    e-attrs\n  attr TCA_PIE_TARGET 1 u32\n  attr TCA_PIE_LIMIT 2 u32\n  attr TCA_PIE_TUPDATE 3 u3\
+    2\n  attr TCA_PIE_ALPHA 4 u32\n  attr TCA_PIE_BETA 5 u32\n  attr TCA_PIE_ECN 6 u32\n  attr TCA\
+    _PIE_BYTEMODE 7 u32\n  attr TCA_PIE_DQ_RATE_ESTIMATOR 8 u32\n\nset tc-police-attrs\n  attr TCA\
+    _POLICE_TBF 1 struct=tc_police\n  attr TCA_POLICE_RATE 2 u32 array\n  attr TCA_POLICE_PEAKRAT\
+    E 3 u32 array\n  attr TCA_POLICE_AVRATE 4 u32\n  attr TCA_POLICE_RESULT 5 u32\n  attr TCA_POLI\
+    CE_TM 6 struct=tcf_t\n  attr TCA_POLICE_PAD 7 pad\n  attr TCA_POLICE_RATE64 8 u64\n  attr TCA_\
+    POLICE_PEAKRATE64 9 u64\n  attr TCA_POLICE_PKTRATE64 10 u64\n  attr TCA_POLICE_PKTBURST64 11 u\
+    64\n\nset tc-qfq-attrs\n  attr TCA_QFQ_WEIGHT 1 u32\n  attr TCA_QFQ_LMAX 2 u32\n\nset tc-red-a\
+    ttrs\n  attr TCA_RED_PARMS 1 struct=tc_red_qopt\n  attr TCA_RED_STAB 2 bytes\n  attr TCA_RED_M\
+    AX_P 3 u32\n  attr TCA_RED_FLAGS 4 bits\n  attr TCA_RED_EARLY_DROP_BLOCK 5 u32\n  attr TCA_RED\
+    _MARK_BLOCK 6 u32\n\nset tc-route-attrs\n  attr TCA_ROUTE4_CLASSID 1 u32\n  attr TCA_ROUTE4_T\
+    O 2 u32\n  attr TCA_ROUTE4_FROM 3 u32\n  attr TCA_ROUTE4_IIF 4 u32\n  attr TCA_ROUTE4_POLICE \
+    5 nest=tc-police-attrs\n  attr TCA_ROUTE4_ACT 6 nest=tc-route-attrs.act\n\nset tc-route-attrs.\
+    act\n  each index nest=tc-act-attrs\n\nset tc-taprio-attrs\n  attr TCA_TAPRIO_ATTR_PRIOMAP 1 s\
+    truct=tc_mqprio_qopt\n  attr TCA_TAPRIO_ATTR_SCHED_ENTRY_LIST 2 nest=tc-taprio-sched-entry-lis\
+    t\n  attr TCA_TAPRIO_ATTR_SCHED_BASE_TIME 3 s64\n  attr TCA_TAPRIO_ATTR_SCHED_SINGLE_ENTRY 4 n\
+    est=tc-taprio-sched-entry\n  attr TCA_TAPRIO_ATTR_SCHED_CLOCKID 5 s32\n  attr TCA_TAPRIO_PAD \
+    6 pad\n  attr TCA_TAPRIO_ATTR_ADMIN_SCHED 7 nest=tc-taprio-attrs\n  attr TCA_TAPRIO_ATTR_SCHED\
+    _CYCLE_TIME 8 s64\n  attr TCA_TAPRIO_ATTR_SCHED_CYCLE_TIME_EXTENSION 9 s64\n  attr TCA_TAPRIO_\
+    ATTR_FLAGS 10 u32\n  attr TCA_TAPRIO_ATTR_TXTIME_DELAY 11 u32\n  attr TCA_TAPRIO_ATTR_TC_ENTR\
+    Y 12 nest=tc-taprio-tc-entry-attrs\n\nset tc-taprio-sched-entry-list\n  attr TCA_TAPRIO_SCHED_\
+    ENTRY 1 nest=tc-taprio-sched-entry multi\n\nset tc-taprio-sched-entry\n  attr TCA_TAPRIO_SCHED\
+    _ENTRY_INDEX 1 u32\n  attr TCA_TAPRIO_SCHED_ENTRY_CMD 2 u8\n  attr TCA_TAPRIO_SCHED_ENTRY_GATE\
+    _MASK 3 u32\n  attr TCA_TAPRIO_SCHED_ENTRY_INTERVAL 4 u32\n\nset tc-taprio-tc-entry-attrs\n  a\
+    ttr TCA_TAPRIO_TC_ENTRY_INDEX 1 u32\n  attr TCA_TAPRIO_TC_ENTRY_MAX_SDU 2 u32\n  attr TCA_TAPR\
+    IO_TC_ENTRY_FP 3 u32\n\nset tc-tbf-attrs\n  attr TCA_TBF_PARMS 1 struct=tc_tbf_qopt\n  attr TC\
+    A_TBF_RTAB 2 u32 array\n  attr TCA_TBF_PTAB 3 u32 array\n  attr TCA_TBF_RATE64 4 u64\n  attr T\
+    CA_TBF_PRATE64 5 u64\n  attr TCA_TBF_BURST 6 u32\n  attr TCA_TBF_PBURST 7 u32\n  attr TCA_TBF_\
+    PAD 8 pad\n\nset tc-act-sample-attrs\n  attr TCA_SAMPLE_TM 1 struct=tcf_t\n  attr TCA_SAMPLE_P\
+    ARMS 2 struct=tc_gen\n  attr TCA_SAMPLE_RATE 3 u32\n  attr TCA_SAMPLE_TRUNC_SIZE 4 u32\n  att\
+    r TCA_SAMPLE_PSAMPLE_GROUP 5 u32\n  attr TCA_SAMPLE_PAD 6 pad\n\nset tc-act-gact-attrs\n  att\
+    r TCA_GACT_TM 1 struct=tcf_t\n  attr TCA_GACT_PARMS 2 struct=tc_gen\n  attr TCA_GACT_PROB 3 st\
+    ruct=tc_gact_p\n  attr TCA_GACT_PAD 4 pad\n\nset tca-stab-attrs\n  attr TCA_STAB_BASE 1 struct\
+    =tc_sizespec\n  attr TCA_STAB_DATA 2 u16 array\n\nset tca-stats-attrs\n  attr TCA_STATS_BASIC \
+    1 struct=gnet_stats_basic\n  attr TCA_STATS_RATE_EST 2 struct=gnet_stats_rate_est\n  attr TCA_\
+    STATS_QUEUE 3 struct=gnet_stats_queue\n  attr TCA_STATS_APP 4 choice=tca-stats-app-msg by=TCA_\
+    KIND\n  attr TCA_STATS_RATE_EST64 5 struct=gnet_stats_rate_est64\n  attr TCA_STATS_PAD 6 pa\
+    d\n  attr TCA_STATS_BASIC_HW 7 struct=gnet_stats_basic\n  attr TCA_STATS_PKT64 8 u64\n\nset tc\
+    -u32-attrs\n  attr TCA_U32_CLASSID 1 u32\n  attr TCA_U32_HASH 2 u32\n  attr TCA_U32_LINK 3 u3\
+    2\n  attr TCA_U32_DIVISOR 4 u32\n  attr TCA_U32_SEL 5 struct=tc_u32_sel\n  attr TCA_U32_POLIC\
+    E 6 nest=tc-police-attrs\n  attr TCA_U32_ACT 7 nest=tc-u32-attrs.act\n  attr TCA_U32_INDEV 8 t\
+    ext\n  attr TCA_U32_PCNT 9 struct=tc_u32_pcnt\n  attr TCA_U32_MARK 10 struct=tc_u32_mark\n  at\
+    tr TCA_U32_FLAGS 11 u32\n  attr TCA_U32_PAD 12 pad\n\nset tc-u32-attrs.act\n  each index nest=\
+    tc-act-attrs\n\nset action-root\n  attr TCA_ROOT_TAB 1 nest=actions\n  attr TCA_ROOT_FLAGS 2 b\
+    its\n  attr TCA_ROOT_COUNT 3 u32\n  attr TCA_ROOT_TIME_DELTA 4 u32\n  attr TCA_ROOT_EXT_WARN_M\
+    SG 5 text\n\nset actions\n  each action nest=tc-act-attrs\n\nset tunnel-key-options\n  attr TC\
+    A_TUNNEL_KEY_ENC_OPTS_GENEVE 1 nest=tunnel-key-geneve multi\n  attr TCA_TUNNEL_KEY_ENC_OPTS_VX\
+    LAN 2 nest=tunnel-key-vxlan\n  attr TCA_TUNNEL_KEY_ENC_OPTS_ERSPAN 3 nest=tunnel-key-erspa\
+    n\n\nset tunnel-key-geneve\n  attr TCA_TUNNEL_KEY_ENC_OPT_GENEVE_CLASS 1 be16\n  attr TCA_TUNN\
+    EL_KEY_ENC_OPT_GENEVE_TYPE 2 u8\n  attr TCA_TUNNEL_KEY_ENC_OPT_GENEVE_DATA 3 bytes length=0..1\
+    27\n\nset tunnel-key-vxlan\n  attr TCA_TUNNEL_KEY_ENC_OPT_VXLAN_GBP 1 u32\n\nset tunnel-key-er\
+    span\n  attr TCA_TUNNEL_KEY_ENC_OPT_ERSPAN_VER 1 u8\n  attr TCA_TUNNEL_KEY_ENC_OPT_ERSPAN_INDE\
+    X 2 be32\n  attr TCA_TUNNEL_KEY_ENC_OPT_ERSPAN_DIR 3 u8\n  attr TCA_TUNNEL_KEY_ENC_OPT_ERSPAN_\
+    HWID 4 u8\n\nset sfb\n  attr TCA_SFB_PARMS 1 struct=tc_sfb_qopt\n\nset mqprio\n  attr TCA_MQPR\
+    IO_MODE 1 u16\n  attr TCA_MQPRIO_SHAPER 2 u16\n  attr TCA_MQPRIO_MIN_RATE64 3 nest=mqprio-leas\
+    t-rates\n  attr TCA_MQPRIO_MAX_RATE64 4 nest=mqprio-largest-rates\n  attr TCA_MQPRIO_TC_ENTRY \
+    5 nest=mqprio-entry multi\n\nset mqprio-least-rates\n  attr TCA_MQPRIO_MIN_RATE64 3 u64 mult\
+    i\n\nset mqprio-largest-rates\n  attr TCA_MQPRIO_MAX_RATE64 4 u64 multi\n\nset mqprio-entr\
+    y\n  attr TCA_MQPRIO_TC_ENTRY_INDEX 1 u32\n  attr TCA_MQPRIO_TC_ENTRY_FP 2 u32\n\nset gate-ent\
+    ries\n  attr TCA_GATE_ONE_ENTRY 1 nest=gate-entry multi\n\nset gate-entry\n  attr TCA_GATE_ENT\
+    RY_INDEX 1 u32\n  attr TCA_GATE_ENTRY_GATE 2 flag\n  attr TCA_GATE_ENTRY_INTERVAL 3 u32\n  att\
+    r TCA_GATE_ENTRY_IPV 4 s32\n  attr TCA_GATE_ENTRY_MAX_OCTETS 5 s32\n\nset pedit-keys\n  attr T\
+    CA_PEDIT_KEY_EX 6 nest=pedit-key multi\n\nset pedit-key\n  attr TCA_PEDIT_KEY_EX_HTYPE 1 u16 e\
+    num=pedit-header\n  attr TCA_PEDIT_KEY_EX_CMD 2 u16 enum=pedit-command\n\nset ematches\n  eac\
+    h match bytes\n\nset mpls-options\n  attr TCA_FLOWER_KEY_MPLS_OPTS_LSE 1 nest=tc-flower-key-mp\
+    ls-opt-attrs multi\n\nchoice tc-options-msg\n  case basic nest=tc-basic-attrs\n  case bpf nest\
+    =tc-bpf-attrs\n  case bfifo struct=tc_fifo_qopt\n  case cake nest=tc-cake-attrs\n  case cbs ne\
+    st=tc-cbs-attrs\n  case cgroup nest=tc-cgroup-attrs\n  case choke nest=tc-choke-attrs\n  case \
+    clsact bytes\n  case codel nest=tc-codel-attrs\n  case drr nest=tc-drr-attrs\n  case etf nest=\
+    tc-etf-attrs\n  case ets nest=tc-ets-attrs\n  case flow nest=tc-flow-attrs\n  case flower nest\
+    =tc-flower-attrs\n  case fq nest=tc-fq-attrs\n  case fq_codel nest=tc-fq-codel-attrs\n  case f\
+    q_pie nest=tc-fq-pie-attrs\n  case fw nest=tc-fw-attrs\n  case gred nest=tc-gred-attrs\n  cas\
+    e hfsc struct=tc_hfsc_qopt\n  case hhf nest=tc-hhf-attrs\n  case htb nest=tc-htb-attrs\n  cas\
+    e ingress bytes\n  case matchall nest=tc-matchall-attrs\n  case mq bytes\n  case mqprio nest=m\
+    qprio after=tc_mqprio_qopt\n  case multiq struct=tc_multiq_qopt\n  case netem nest=tc-netem-at\
+    trs after=tc_netem_qopt\n  case pfifo struct=tc_fifo_qopt\n  case pfifo_fast struct=tc_prio_qo\
+    pt\n  case pfifo_head_drop struct=tc_fifo_qopt\n  case pie nest=tc-pie-attrs\n  case plug stru\
+    ct=tc_plug_qopt\n  case prio struct=tc_prio_qopt\n  case qfq nest=tc-qfq-attrs\n  case red nes\
+    t=tc-red-attrs\n  case route nest=tc-route-attrs\n  case sfb nest=sfb\n  case sfq struct=tc_sf\
+    q_qopt_v1\n  case taprio nest=tc-taprio-attrs\n  case tbf nest=tc-tbf-attrs\n  case u32 nest=t\
+    c-u32-attrs\n\nchoice tc-act-options-msg\n  case bpf nest=tc-act-bpf-attrs\n  case connmark ne\
+    st=tc-act-connmark-attrs\n  case csum nest=tc-act-csum-attrs\n  case ct nest=tc-act-ct-attr\
+    s\n  case ctinfo nest=tc-act-ctinfo-attrs\n  case gact nest=tc-act-gact-attrs\n  case gate nes\
+    t=tc-act-gate-attrs\n  case ife nest=tc-act-ife-attrs\n  case mirred nest=tc-act-mirred-attr\
+    s\n  case mpls nest=tc-act-mpls-attrs\n  case nat nest=tc-act-nat-attrs\n  case pedit nest=tc-\
+    act-pedit-attrs\n  case police nest=tc-act-police-attrs\n  case sample nest=tc-act-sample-attr\
+    s\n  case simple nest=tc-act-simple-attrs\n  case skbedit nest=tc-act-skbedit-attrs\n  case sk\
+    bmod nest=tc-act-skbmod-attrs\n  case tunnel_key nest=tc-act-tunnel-key-attrs\n  case vlan nes\
+    t=tc-act-vlan-attrs\n\nchoice tca-stats-app-msg\n  case cake nest=tc-cake-stats-attrs\n  case \
+    choke struct=tc_choke_xstats\n  case codel struct=tc_codel_xstats\n  case fq struct=tc_fq_qd_s\
+    tats\n  case fq_codel struct=tc_fq_codel_xstats\n  case fq_pie struct=tc_fq_pie_xstats\n  cas\
+    e hhf struct=tc_hhf_xstats\n  case pie struct=tc_pie_xstats\n  case red struct=tc_red_xstat\
+    s\n  case sfb struct=tc_sfb_xstats\n  case sfq struct=tc_sfq_xstats\n  case htb struct=tc_htb_\
+    xstats\n  case hfsc struct=tc_hfsc_stats\n  case drr struct=tc_drr_stats\n  case qfq struct=tc\
+    _qfq_stats\n";
 
 /// The text of `tables/tc.table`.
 pub(crate) fn text() -> &'static [u8]

@@ -57,24 +57,24 @@ static TEXT: &[u8] = b"\
     4_MAXIP 2 ipv4\n  attr CTA_NAT_PROTO 3 nest=protonat\n  attr CTA_NAT_V6_MINIP 4 ipv6\n  attr C\
     TA_NAT_V6_MAXIP 5 ipv6\n\nset protonat\n  attr CTA_PROTONAT_PORT_MIN 1 be16\n  attr CTA_PROTON\
     AT_PORT_MAX 2 be16\n\nset seqadj\n  attr CTA_SEQADJ_CORRECTION_POS 1 be32\n  attr CTA_SEQADJ_O\
-    FFSET_BEFORE 2 be32\n  attr CTA_SEQADJ_OFFSET_AFTER 3 be32\n\nset synproxy\n  attr CTA_SYNPROX\
-    Y_ISN 1 be32\n  attr CTA_SYNPROXY_ITS 2 be32\n  attr CTA_SYNPROXY_TSOFF 3 be32\n\nset help\n  \
-    attr CTA_HELP_NAME 1 text\n  attr CTA_HELP_INFO 2 bytes\n\nset secctx\n  attr CTA_SECCTX_NAME \
-    1 text\n\nset filter\n  attr CTA_FILTER_ORIG_FLAGS 1 u32\n  attr CTA_FILTER_REPLY_FLAGS 2 u3\
-    2\n\nset stats-cpu\n  attr CTA_STATS_SEARCHED 1 be32\n  attr CTA_STATS_FOUND 2 be32\n  attr CT\
-    A_STATS_NEW 3 be32\n  attr CTA_STATS_INVALID 4 be32\n  attr CTA_STATS_IGNORE 5 be32\n  attr CT\
-    A_STATS_DELETE 6 be32\n  attr CTA_STATS_DELETE_LIST 7 be32\n  attr CTA_STATS_INSERT 8 be32\n  \
-    attr CTA_STATS_INSERT_FAILED 9 be32\n  attr CTA_STATS_DROP 10 be32\n  attr CTA_STATS_EARLY_DRO\
-    P 11 be32\n  attr CTA_STATS_ERROR 12 be32\n  attr CTA_STATS_SEARCH_RESTART 13 be32\n  attr CTA\
-    _STATS_CLASH_RESOLVE 14 be32\n  attr CTA_STATS_CHAIN_TOOLONG 15 be32\n\nset stats-global\n  at\
-    tr CTA_STATS_GLOBAL_ENTRIES 1 be32\n  attr CTA_STATS_GLOBAL_MAX_ENTRIES 2 be32\n\nset expec\
-    t\n  attr CTA_EXPECT_MASTER 1 nest=tuple\n  attr CTA_EXPECT_TUPLE 2 nest=tuple\n  attr CTA_EXP\
-    ECT_MASK 3 nest=tuple\n  attr CTA_EXPECT_TIMEOUT 4 be32\n  attr CTA_EXPECT_ID 5 be32\n  attr C\
-    TA_EXPECT_HELP_NAME 6 text\n  attr CTA_EXPECT_ZONE 7 be16\n  attr CTA_EXPECT_FLAGS 8 be32\n  a\
-    ttr CTA_EXPECT_CLASS 9 be32\n  attr CTA_EXPECT_NAT 10 nest=expect-nat\n  attr CTA_EXPECT_FN 1\
-    1 text\n\nset expect-nat\n  attr CTA_EXPECT_NAT_DIR 1 be32\n  attr CTA_EXPECT_NAT_TUPLE 2 nest\
-    =tuple\n\nset expect-stats\n  attr CTA_STATS_EXP_NEW 1 be32\n  attr CTA_STATS_EXP_CREATE 2 be3\
-    2\n  attr CTA_STATS_EXP_DELETE 3 be32\n";
+    FFSET_BEFORE 2 sbe32\n  attr CTA_SEQADJ_OFFSET_AFTER 3 sbe32\n\nset synproxy\n  attr CTA_SYNPR\
+    OXY_ISN 1 be32\n  attr CTA_SYNPROXY_ITS 2 be32\n  attr CTA_SYNPROXY_TSOFF 3 be32\n\nset hel\
+    p\n  attr CTA_HELP_NAME 1 text\n  attr CTA_HELP_INFO 2 bytes\n\nset secctx\n  attr CTA_SECCTX_\
+    NAME 1 text\n\nset filter\n  attr CTA_FILTER_ORIG_FLAGS 1 u32\n  attr CTA_FILTER_REPLY_FLAGS \
+    2 u32\n\nset stats-cpu\n  attr CTA_STATS_SEARCHED 1 be32\n  attr CTA_STATS_FOUND 2 be32\n  att\
+    r CTA_STATS_NEW 3 be32\n  attr CTA_STATS_INVALID 4 be32\n  attr CTA_STATS_IGNORE 5 be32\n  att\
+    r CTA_STATS_DELETE 6 be32\n  attr CTA_STATS_DELETE_LIST 7 be32\n  attr CTA_STATS_INSERT 8 be3\
+    2\n  attr CTA_STATS_INSERT_FAILED 9 be32\n  attr CTA_STATS_DROP 10 be32\n  attr CTA_STATS_EARL\
+    Y_DROP 11 be32\n  attr CTA_STATS_ERROR 12 be32\n  attr CTA_STATS_SEARCH_RESTART 13 be32\n  att\
+    r CTA_STATS_CLASH_RESOLVE 14 be32\n  attr CTA_STATS_CHAIN_TOOLONG 15 be32\n\nset stats-globa\
+    l\n  attr CTA_STATS_GLOBAL_ENTRIES 1 be32\n  attr CTA_STATS_GLOBAL_MAX_ENTRIES 2 be32\n\nset e\
+    xpect\n  attr CTA_EXPECT_MASTER 1 nest=tuple\n  attr CTA_EXPECT_TUPLE 2 nest=tuple\n  attr CTA\
+    _EXPECT_MASK 3 nest=tuple\n  attr CTA_EXPECT_TIMEOUT 4 be32\n  attr CTA_EXPECT_ID 5 be32\n  at\
+    tr CTA_EXPECT_HELP_NAME 6 text\n  attr CTA_EXPECT_ZONE 7 be16\n  attr CTA_EXPECT_FLAGS 8 be3\
+    2\n  attr CTA_EXPECT_CLASS 9 be32\n  attr CTA_EXPECT_NAT 10 nest=expect-nat\n  attr CTA_EXPECT\
+    _FN 11 text\n\nset expect-nat\n  attr CTA_EXPECT_NAT_DIR 1 be32\n  attr CTA_EXPECT_NAT_TUPLE \
+    2 nest=tuple\n\nset expect-stats\n  attr CTA_STATS_EXP_NEW 1 be32\n  attr CTA_STATS_EXP_CREAT\
+    E 2 be32\n  attr CTA_STATS_EXP_DELETE 3 be32\n";
 
 /// The text of `tables/conntrack.table`.
 pub(crate) fn text() -> &'static [u8]
