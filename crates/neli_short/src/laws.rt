@@ -1,6 +1,6 @@
 //! What short calls say of the types that they stand on. The functions do nothing: their contracts are the laws.
 
-ghost use Rattle.std.specs.Prelude.{◌≡◌, ℕ, List, None, false, true};
+ghost use Rattle.std.specs.Prelude.{◌≡◌, ℕ, List, None, Some, Ok, false, true};
 ghost use Rattle.neli_wire.specs.laws.Values.{AreSame, GivesOnly, OnlyWhere};
 ghost use Rattle.neli_attr.specs.Handles.{attrs_by};
 ghost use Rattle.neli_attr.specs.Nlattr.{with_length as generic};
@@ -9,6 +9,7 @@ ghost use Rattle.neli_lent.specs.Messages.{message_view};
 ghost use Rattle.neli_reader.specs.Retyping.{body_of};
 ghost use Rattle.neli_short.specs.Bodies.{lent_body};
 ghost use Rattle.neli_short.specs.Errors.{attr_text};
+ghost use Rattle.neli_short.specs.ExtAcks.{PolicyAttributes, policy_wire};
 ghost use Rattle.neli_short.specs.Made.{field};
 
 use crate::{AttrError, ExtAck, ExtAckBuilder, LentLookup, Lookup, Made, ReadBody};
@@ -69,4 +70,9 @@ pub fn refusals_are_their_parts()
     }) }
     ensures printed { AreSame ⟦<AttrError as Display>⟧.output attr_text }
     ensures cause { GivesOnly ⟦<DeError as From<AttrError>>⟧.from_gives (λ error e. e ≡ error.cause) }
+{}
+
+/// Attributes with payloads of bytes always have wire bytes, so a policy that a builder is given is never left out.
+pub fn policies_have_wire_bytes()
+    ensures written { (attrs : PolicyAttributes) → (bytes : List ℕ) × (policy_wire (Some attrs) ≡ Ok bytes) }
 {}
