@@ -20,7 +20,7 @@ pub const ROUTING: [(&str, &str, usize); 14] = [
 
 /// Families of generic netlink.
 pub const GENERIC: [(&str, &str, usize); 21] = [
-    ("devlink", "78b91d481ee277c6fe777b3da04f0231", 359),
+    ("devlink", "7304112768fe4961c808e81b91cf2a2a", 365),
     ("dpll", "9a63f63bea95177c0b21ba35c7fb8e0d", 97),
     ("ethtool", "04327115fbb5fc6e290faac7bc11666e", 503),
     ("fou", "72df1ac9797a7e84f96296b65ab22de7", 21),
