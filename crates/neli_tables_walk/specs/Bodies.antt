@@ -168,10 +168,10 @@ is_counted (Some table) = is_some (where_at table)
 abbrev pub counts_in_bodies : Tables → ℕ → Bool
 counts_in_bodies tables protocol = is_counted (first_table tables protocol)
 
--- an error or an acknowledgement (2), or the end of a dump (3)
+-- an error or an acknowledgement (2), or the end of a dump (3, with the flag MULTI, 2)
 abbrev pub is_answer : Tables → Head → Bool
 is_answer tables head =
-    (head.message_type == 2 || head.message_type == 3)
+    (head.message_type == 2 || (head.message_type == 3 && bit_and head.flags.0 2 == 2))
     && not (counts_in_bodies tables head.protocol)
 
 -- the attributes of an answer, by the tables that are of every protocol

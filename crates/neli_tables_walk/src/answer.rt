@@ -6,7 +6,8 @@ ghost use Rattle.neli_tables_walk.specs.Bodies.{is_answer};
 
 use crate::located::{first_table, where_at};
 use crate::{Body, Head};
-use neli_consts::Nlmsg;
+use bitflags::Flags;
+use neli_consts::{NlmF, Nlmsg};
 use neli_tables::{Tables, Way};
 
 /// Whether the messages of a protocol state their numbers in their bodies.
@@ -20,13 +21,14 @@ fn counts_in_bodies(tables: &Tables<'_>, protocol: u16) -> bool
 }
 
 /// Whether a message is an answer: an error or an acknowledgement (`NLMSG_ERROR`), or the end of a
-/// dump (`NLMSG_DONE`). A protocol whose messages state their numbers in their bodies, as the
-/// connector, has none.
+/// dump (`NLMSG_DONE` with `NLM_F_MULTI`; `nfnetlink_log` ends its datagrams by one without it, and
+/// without a code). A protocol whose messages state their numbers in their bodies, as the connector,
+/// has none.
 pub fn is_answer(tables: &Tables<'_>, head: Head) -> bool
     ensures { result ≡ is_answer tables.now head }
 {
-    let is_one = head.message_type == u16::from(Nlmsg::Error)
-        || head.message_type == u16::from(Nlmsg::Done);
+    let is_end = head.message_type == u16::from(Nlmsg::Done) && head.flags.contains(NlmF::MULTI);
+    let is_one = head.message_type == u16::from(Nlmsg::Error) || is_end;
     is_one && !counts_in_bodies(tables, head.protocol)
 }
 

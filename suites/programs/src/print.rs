@@ -122,7 +122,7 @@ const JSON: [Row; 9] = [
     ),
 ];
 
-const TEXT: [Row; 7] = [
+const TEXT: [Row; 10] = [
     (
         "0821-generic-generic-family",
         16,
@@ -191,6 +191,35 @@ const TEXT: [Row; 7] = [
         payload 0x0c000180080001000f270000\n  \
         NLMSGERR_ATTR_MSG \"no device matches ifindex\"\n  \
         NLMSGERR_ATTR_OFFS 24\n",
+    ),
+    (
+        "the end of a datagram of nfnetlink_log (`__nfulnl_send` of net/netfilter/nfnetlink_log.c): a header alone",
+        12,
+        "1400000003000000000000000000000002000000",
+        "NLMSG_DONE length 20 flags 0 seq 0 port 0\n  payload 0x02000000\n",
+    ),
+    (
+        "a dump of a bridge's multicast groups, of Linux 6.18: its messages have the type of the request",
+        0,
+        "480000005600020007000000f74000000000000002000000300001002c00010028000100\
+        0200000000000000ef010101000000000000000000000000080000000800010090650000",
+        "RTM_GETMDB length 72 flags NLM_F_MULTI seq 7 port 16631\n  \
+        br_port_msg family 0 ifindex 2\n  \
+        MDBA_MDB\n    \
+        MDBA_MDB_ENTRY\n      \
+        MDBA_MDB_ENTRY_INFO br_mdb_entry ifindex 2 state 0 flags 0 vid 0 \
+        addr.u 0xef010101000000000000000000000000 addr.proto 2048\n        \
+        MDBA_MDB_EATTR_TIMER 26000\n",
+    ),
+    (
+        "a request for statistics by a filter of links' 64-bit counters",
+        0,
+        "280000005e000100070000000000000000000000010000000800000\
+        00c0001800800040001000000",
+        "RTM_GETSTATS length 40 flags NLM_F_REQUEST seq 7 port 0\n  \
+        if_stats_msg family 0 ifindex 1 filter_mask 8\n  \
+        IFLA_STATS_GET_FILTERS nested\n    \
+        statistics[4] 0x1\n",
     ),
     (
         "a header that ends too early after a message",
