@@ -418,90 +418,105 @@ class Verdict:
 class Reply:
     """The answer to a request: an iterator over its messages, without the acknowledgement and the end.
 
-    It raises a NetlinkError if the kernel refuses, and at the end if the answer is incomplete. It may be closed at any
-    time.
+    It raises a NetlinkError if the kernel refuses, and at the end if the answer is incomplete; and a ValueError once
+    its socket is closed, or bound again. It may be closed at any time, and is once nobody keeps it.
     """
 
     def __init__(self, sock, handle):
-        self._sock, self._handle, self._last = sock, handle, None
+        self._sock, self._last, self._dropped = sock, None, sock._dropped
+        self._handle = handle
+
+    def __del__(self):
+        # Perhaps during a call, or in another thread: the next call of the socket closes the handle.
+        if getattr(self, "_handle", None) is not None:
+            self._dropped.append(self._handle)
 
     def __iter__(self):
         return self
 
     def __next__(self):
         while self._handle is not None:
-            code, message = self._sock._next(self._handle)
-            if self._gives(code, message):
+            message = self._sock._call(self._step, self._sock._next)
+            if message:
                 return message
         raise StopIteration
-
-    def _gives(self, code, message):
-        """Whether what was read is given; raises what is to be raised in its place, and closes the answer at its end."""
-        if code == ITEM:
-            return message.type not in (NLMSG_ERROR, NLMSG_DONE)
-        if code == END:
-            verdict = self.verdict()
-            self.close()
-            if not verdict.is_complete:
-                raise self._sock._error(verdict.code, abs(verdict.error))
-            return False
-        error = self._sock._error(code)
-        if not (code == LINK and error.code in (errno.EAGAIN, errno.ECANCELED)):
-            self.close()
-        raise error
 
     def lent(self):
         """As the iterator, but each message is a Lent: nothing is copied. The next step ends what is lent."""
         while self._handle is not None:
-            code, message = self._sock._lend(self._handle)
-            if code == KERNEL_ERROR:
-                code, message = self._sock._next(self._handle)  # copied, for its words
-            if self._gives(code, message):
+            message = self._sock._call(self._step, self._sock._lend)
+            if message:
                 yield message
 
     def verdict(self):
-        """Whether the answer is complete; for a closed one the last known verdict."""
-        if self._handle is not None:
-            said = _Verdict()
-            self._last = Verdict(self._sock._verdict(self._handle, ctypes.byref(said)), said)
+        """Whether the answer is complete. Once it or its socket is closed, the last verdict known or a ValueError."""
+        if self._is_open():
+            self._sock._call(self._look)
+        if self._last is None:
+            raise ValueError("the reply or its socket is closed")
         return self._last
 
     def close(self):
         """Gives it up: messages that still arrive for it are dropped."""
-        if self._handle is not None and self._sock._at:
-            self.verdict()
-            self._sock._close_request(self._handle)
+        if self._is_open():
+            self._sock._call(self._give_up)
         self._handle = None
 
+    def _is_open(self):
+        return self._handle is not None and self._dropped is self._sock._dropped
 
-class NetlinkSocket:
-    """A socket of a netlink family, in these multicast groups, which delivers each reply to its request."""
+    # What follows runs in a call of the socket, so that nothing closes either meanwhile.
+
+    def _opened(self):
+        if not self._is_open():
+            raise ValueError("the reply or its socket is closed")
+        return self._handle
+
+    def _step(self, read):
+        """Reads an item: the message that is given, or None. Raises what comes in its place, and closes at the end."""
+        code, message = read(self._opened())
+        if code == ITEM:
+            return message if message.type not in (NLMSG_ERROR, NLMSG_DONE) else None
+        if code == END:
+            self._give_up()
+            if not self._last.is_complete:
+                raise self._sock._error(self._last.code, abs(self._last.error))
+            return None
+        error = self._sock._error(code)
+        if not (error.status == LINK and error.code in (errno.EAGAIN, errno.ECANCELED)):
+            self._give_up()
+        raise error
+
+    def _look(self):
+        said = _Verdict()
+        self._last = Verdict(self._sock._verdict(self._opened(), ctypes.byref(said)), said)
+
+    def _give_up(self):
+        if self._is_open():
+            self._look()
+            handle, self._handle = self._handle, None  # another request may get its place
+            self._sock._close_request(handle)
+
+
+class _Socket:
+    """What the socket of the kernel and the simulated one share, over calls of a library that each has of its own."""
 
     def __init__(self, family=NETLINK_ROUTE, groups=()):
-        self.family, self._at, self._said, self._lent = family, None, None, None
-        self._open(groups)
-
-    def _open(self, groups):
-        groups = list(groups)
-        at, numbers = ctypes.c_void_p(), (ctypes.c_uint32 * max(1, len(groups)))(*groups)
-        code = _lib.neli_host_open(ctypes.byref(at), self.family, numbers, len(groups))
-        self._at = at.value
-        if code != OK:
-            error = self._error(code)
-            self.close()
-            raise error
-        _lib.neli_host_set_ends_by_signals(self._at, True)
+        self.family, self._at, self._said, self._lent, self._is_busy = family, None, None, None, False
+        self._dropped = []  # the handles that nobody keeps; each time it is opened it has a list of its own
+        self._call(self._open, list(groups))
 
     def bind(self, groups=()):
         """Opens it again, in these groups; closes the open socket."""
-        self.close()
-        self._open(groups)
+        self._call(self._open, list(groups))
 
     def close(self):
-        self._end_lent()
-        at, self._at = self._at, None
+        self._call(self._shut)
+
+    def _shut(self):
+        at, self._at, self._dropped = self._at, None, []
         if at:
-            _lib.neli_host_close(at)
+            self._free(at)
 
     def __enter__(self):
         return self
@@ -513,6 +528,123 @@ class NetlinkSocket:
         if getattr(self, "_at", None):
             self.close()
 
+    def _opened(self):
+        if not self._at:
+            raise ValueError("the socket is closed")
+        return self._at
+
+    def _call(self, call, *words):
+        """Does what may change what the library keeps. A signal's handler may run in it, and begins no other."""
+        if self._is_busy:
+            raise RuntimeError("a call of this socket is under way: meanwhile only stop may be called")
+        try:
+            self._is_busy = True
+            self._end_lent()
+            while self._dropped:
+                self._close_request(self._dropped.pop())
+            result = call(*words)
+            self._is_busy = False
+            return result
+        except BaseException:  # and not `finally`, before which a handler may raise
+            self._is_busy = False
+            raise
+
+    def _well(self, code):
+        if code != OK:
+            raise self._error(code)
+
+    def _end_lent(self):
+        """Ends what is lent, before each call that may change what the library keeps."""
+        if self._lent:
+            handle, message = self._lent
+            message._release()
+            self._lent = None
+            self._pass(handle)
+
+    def _lend(self, handle):
+        """The next item of a handle, lent until the next call, which goes on to the one after it."""
+        lent = _Lent()
+        code, self._said = self._lend_into(handle, lent), None
+        if code == KERNEL_ERROR:
+            return self._next(handle)  # copied, for its words
+        if code != ITEM:
+            return code, None
+        self._lent = handle, Lent(lent, self.family, self)
+        return code, self._lent[1]
+
+    def _lend_readable(self, handle):
+        """As `_lend`, but goes past what cannot be read."""
+        code, message = self._lend(handle)
+        if code < 0 and code not in (LINK, MEMORY):
+            self._pass(handle)
+        return code, message
+
+    def _hear(self, read):
+        code, message = read(MULTICAST)
+        if code != ITEM:
+            raise self._error(code)
+        return message
+
+    def request(self, msg_type, msg_flags=NLM_F_ACK, body=b""):
+        """Sends a request, and returns its Reply. `body` is the header of its type, and attributes of `nla`."""
+        return self._call(self._send, msg_type, msg_flags, bytes(body))
+
+    def nlm_request(self, body, msg_type, msg_flags=NLM_F_REQUEST | NLM_F_ACK):
+        """As `request`, with the body first as in pyroute2; returns the list of its messages."""
+        reply = self.request(msg_type, msg_flags, body)
+        try:
+            return list(reply)
+        finally:
+            reply.close()
+
+    def dump(self, msg_type, body=b"", msg_flags=0, times=5):
+        """The messages of a whole list, which is requested again, at most so many times, if it changed meanwhile, a
+        fault of the socket lost a part, or the kernel was busy.
+
+        A NetlinkError reports why it is incomplete: `status` is INTERRUPTED if it still changed.
+        """
+        for left in reversed(range(max(1, times))):
+            try:
+                return self.nlm_request(body, msg_type, msg_flags | NLM_F_DUMP)
+            except NetlinkError as error:
+                if not left or not error.is_passing:
+                    raise
+
+    def get(self):
+        """The next message for a group. If some were lost, raises a NetlinkError of ENOBUFS; more messages follow."""
+        return self._call(self._hear, self._next)
+
+    def get_lent(self):
+        """As `get`, but the message is a Lent: nothing is copied, and the next call ends what is lent."""
+        return self._call(self._hear, self._lend_readable)
+
+
+def _milliseconds(seconds):
+    """A timeout as the library takes it, an int of C."""
+    if seconds is None:
+        return -1
+    if seconds < 0:
+        raise ValueError("a timeout is not below 0")
+    return int(min(seconds * 1000, 2147483647))
+
+
+class NetlinkSocket(_Socket):
+    """A socket of a netlink family, in these multicast groups, which delivers each reply to its request."""
+
+    def _open(self, groups):
+        self._shut()
+        at, numbers = ctypes.c_void_p(), (ctypes.c_uint32 * max(1, len(groups)))(*groups)
+        code = _lib.neli_host_open(ctypes.byref(at), self.family, numbers, len(groups))
+        self._at = at.value
+        if code != OK:
+            error = self._error(code)
+            self._shut()
+            raise error
+        _lib.neli_host_set_ends_by_signals(self._at, True)
+
+    def _free(self, at):
+        _lib.neli_host_close(at)
+
     def fileno(self):
         return _lib.neli_host_fd(self._opened())
 
@@ -522,20 +654,18 @@ class NetlinkSocket:
 
     def settimeout(self, seconds):
         """Sets how long a call waits in all, by default without end (None); then it raises a NetlinkError of EAGAIN."""
-        _lib.neli_host_set_wait(self._opened(), -1 if seconds is None else int(seconds * 1000))
+        _lib.neli_host_set_wait(self._opened(), _milliseconds(seconds))
 
     def set_strict(self):
         """Makes the kernel check all fields of a dump's request: only then can a dump list the objects of one link."""
+        self._call(self._make_strict)
+
+    def _make_strict(self):
         self._well(_lib.neli_host_set_strict(self._opened()))
 
     def stop(self):
-        """Ends all waits with ECANCELED; any thread may call it."""
+        """Ends all waits with ECANCELED; any thread, and a signal's handler, may call it."""
         _lib.neli_host_stop(self._opened())
-
-    def _opened(self):
-        if not self._at:
-            raise ValueError("the socket is closed")
-        return self._at
 
     def _error(self, code, number=0):
         """The error of a call, by its code."""
@@ -551,17 +681,11 @@ class NetlinkSocket:
         words = os.fsdecode(text.value) or (os.strerror(number) if number else _text_of(code))
         return NetlinkError(number, words, code, attributes)
 
-    def _well(self, code):
-        if code != OK:
-            raise self._error(code)
-
     def _verdict(self, handle, said):
-        self._end_lent()
-        return _lib.neli_host_verdict(self._at, handle, said)
+        return _lib.neli_host_verdict(self._opened(), handle, said)
 
     def _close_request(self, handle):
-        self._end_lent()
-        _lib.neli_host_close_request(self._at, handle)
+        _lib.neli_host_close_request(self._opened(), handle)
 
     def _wait_in(self, call, handle, read):
         """The code of a call that reads. A signal's handler runs, and the wait continues if it raises nothing."""
@@ -573,42 +697,20 @@ class NetlinkSocket:
     def _lend_into(self, handle, lent):
         return self._wait_in(_lib.neli_host_lend, handle, lent)
 
-    def _lend(self, handle):
-        """The next item of a handle, lent until the next call, which goes on to the one after it."""
-        lent = _Lent()
-        self._end_lent()
-        code, self._said = self._lend_into(handle, lent), None
-        if code != ITEM:
-            return code, None
-        message = Lent(lent, self.family, self)
-        self._lent = handle, message
-        return code, message
-
-    def _end_lent(self):
-        """Ends what is lent, before each call that may change what the library keeps."""
-        if self._lent:
-            handle, message = self._lent
-            message._release()
-            self._lent = None
-            self._pass(handle)
-
     def _pass(self, handle):
         _lib.neli_host_pass(self._at, handle)
 
     def _next(self, handle):
         """The next item of a handle."""
         read = _Message()
-        self._end_lent()
         code, self._said = self._wait_in(_lib.neli_host_next, handle, read), None
         if code in (ITEM, KERNEL_ERROR):
             data = ctypes.string_at(_lib.neli_host_item(self._at), _lib.neli_host_item_length(self._at))
             self._said = Message(data, read, self.family)
         return code, self._said
 
-    def request(self, msg_type, msg_flags=NLM_F_ACK, body=b""):
-        """Sends a request, and returns its Reply. `body` is the header of its type, and attributes of `nla`."""
-        handle, body = ctypes.c_size_t(), bytes(body)
-        self._end_lent()
+    def _send(self, msg_type, msg_flags, body):
+        handle = ctypes.c_size_t()
         self._well(_lib.neli_host_send(self._opened(), msg_type, msg_flags, body, len(body), ctypes.byref(handle)))
         return Reply(self, handle.value)
 
@@ -617,42 +719,10 @@ class NetlinkSocket:
 
         The kernel performs them in their order, also past one that it refuses. A refusal to send sends none of them.
         """
-        requests = [_Request(kind, flags, bytes(body), len(body)) for kind, flags, body in requests]
+        return self._call(self._send_all, [(kind, flags, bytes(body)) for kind, flags, body in requests])
+
+    def _send_all(self, requests):
         handles = (ctypes.c_size_t * max(1, len(requests)))()
-        array = (_Request * max(1, len(requests)))(*requests)
-        self._end_lent()
+        array = (_Request * max(1, len(requests)))(*((*it, len(it[2])) for it in requests))
         self._well(_lib.neli_host_send_all(self._opened(), array, len(requests), handles))
         return [Reply(self, it) for it in handles[: len(requests)]]
-
-    def nlm_request(self, body, msg_type, msg_flags=NLM_F_REQUEST | NLM_F_ACK):
-        """As `request`, with the body first as in pyroute2; returns the list of its messages."""
-        return list(self.request(msg_type, msg_flags, body))
-
-    def dump(self, msg_type, body=b"", msg_flags=0, times=5):
-        """The messages of a whole list, which is requested again, at most so many times, if it changed meanwhile, a fault
-        of the socket lost a part, or the kernel was busy.
-
-        A NetlinkError reports why it is incomplete: `status` is INTERRUPTED if it still changed.
-        """
-        for left in reversed(range(max(1, times))):
-            try:
-                return list(self.request(msg_type, msg_flags | NLM_F_DUMP, body))
-            except NetlinkError as error:
-                if not left or not error.is_passing:
-                    raise
-
-    def get(self):
-        """The next message for a group. If some were lost, raises a NetlinkError of ENOBUFS; more messages follow."""
-        code, message = self._next(MULTICAST)
-        if code == ITEM:
-            return message
-        raise self._error(code)
-
-    def get_lent(self):
-        """As `get`, but the message is a Lent: nothing is copied, and the next call ends what is lent."""
-        code, message = self._lend(MULTICAST)
-        if code == ITEM:
-            return message
-        if code < 0 and code != LINK:
-            self._pass(MULTICAST)
-        raise self._error(code)

@@ -1,7 +1,7 @@
 """A kernel to test against, for Python over libneli.so: a client runs in a test with no kernel and no namespace.
 
-A SimulatedSocket is a NetlinkSocket whose requests a function of yours serves. The answers are made by the proved
-library, as bytes, and each is given to its request by its router.
+A SimulatedSocket has the calls of a NetlinkSocket, and a function of yours serves its requests. The answers are made by
+the proved library, as bytes, and each is given to its request by its router.
 
     import neli
     from neli_kernel import SimulatedSocket
@@ -14,11 +14,13 @@ library, as bytes, and each is given to its request by its router.
 """
 
 import ctypes
+import errno
+import io
 import os
 import struct
 
 import neli
-from neli import END, ITEM, KERNEL_ERROR, MULTICAST, NLM_F_ACK, OK, ROOM
+from neli import END, ITEM, KERNEL_ERROR, KIND, LINK, MULTICAST, NLM_F_ACK, NLM_F_DUMP, OK, ROOM, WAITS
 
 __all__ = ["SimulatedSocket", "Request", "requests", "notification"]
 
@@ -79,6 +81,7 @@ def _library():
 
 
 _lib = _library()
+_NO_BYTES = ctypes.create_string_buffer(1)
 
 
 def _made(call, *words):
@@ -160,54 +163,92 @@ def notification(msg_type, body=b"", msg_flags=0, number=0, port=0):
     return _made(_lib.neli_c_kernel_notification, msg_type, msg_flags, number, port, body, len(body))
 
 
-class SimulatedSocket(neli.NetlinkSocket):
-    """A socket with a kernel of your own: `serve` gives the datagrams of the answer to a Request. It never waits."""
+class SimulatedSocket(neli._Socket):
+    """A socket with a kernel of your own: `serve` gives the datagrams of the answer to a Request.
+
+    It never waits, is in all groups, and has no file descriptor.
+    """
 
     def __init__(self, serve, family=neli.NETLINK_ROUTE, port=4711):
-        self.family, self._said, self._serve, self._port, self._router = family, None, serve, port, _Opaque()
-        self._lent = None
-        self._at = ctypes.byref(self._router)
-        self._well(_lib.neli_c_router_new(self._at, port))
+        self._serve, self._port, self._router, self._is_stopped = serve, port, _Opaque(), False
+        super().__init__(family)
 
     port = property(lambda self: self._port)
 
-    def close(self):
-        self._end_lent()
-        _lib.neli_c_router_free(ctypes.byref(self._router))
-        self._at = None
+    def _open(self, _groups):
+        self._shut()
+        at = ctypes.byref(self._router)
+        self._well(_lib.neli_c_router_new(at, self._port))
+        self._at, self._is_stopped = at, False
+
+    def _free(self, at):
+        _lib.neli_c_router_free(at)
+
+    def fileno(self):
+        raise io.UnsupportedOperation("a simulated socket has no file descriptor")
+
+    def settimeout(self, seconds):
+        """Has no effect."""
+        self._opened()
+        neli._milliseconds(seconds)
+
+    def set_strict(self):
+        """Has no effect."""
+        self._opened()
+
+    def stop(self):
+        """Has reads raise ECANCELED where nothing is left."""
+        self._opened()
+        self._is_stopped = True
 
     def request(self, msg_type, msg_flags=NLM_F_ACK, body=b""):
-        body, sent, out = bytes(body), _Sent(), ctypes.create_string_buffer(len(body) + 32)
-        self._end_lent()
-        self._well(_lib.neli_c_router_send(self._opened(), msg_type, msg_flags, body, len(body), out, len(out),
-                                           ctypes.byref(sent)))
-        for request in requests(out.raw[: sent.length], self._port):
+        reply, sent = self._call(self._send, msg_type, msg_flags, bytes(body))
+        for request in requests(sent, self._port):
             for datagram in self._serve(request):
                 self.deliver(datagram)
-        return neli.Reply(self, sent.handle)
+        return reply
+
+    def request_all(self, requests):
+        """As one `request` after the other."""
+        requests = [(kind, flags, bytes(body)) for kind, flags, body in requests]
+        self._opened()
+        if sum(flags & NLM_F_DUMP == NLM_F_DUMP for _, flags, _ in requests) > 1:
+            raise self._error(KIND)
+        return [self.request(*it) for it in requests]
+
+    def _send(self, msg_type, msg_flags, body):
+        sent, out = _Sent(), ctypes.create_string_buffer(len(body) + 32)
+        self._well(_lib.neli_c_router_send(self._opened(), msg_type, msg_flags, body, len(body), out, len(out),
+                                           ctypes.byref(sent)))
+        return neli.Reply(self, sent.handle), out.raw[: sent.length]
 
     def deliver(self, datagram, group=0):
         """Has a datagram come to a group, as `notification` makes one; or to the port, where it is 0."""
-        groups = ctypes.c_uint32(group)
-        self._end_lent()
-        self._well(_lib.neli_c_router_datagram(self._opened(), datagram, len(datagram), ctypes.byref(groups), 1))
+        self._call(self._take_in, datagram, ctypes.c_uint32(group))
+
+    def _take_in(self, datagram, group):
+        self._well(_lib.neli_c_router_datagram(self._opened(), datagram, len(datagram), ctypes.byref(group), 1))
 
     def _verdict(self, handle, said):
-        self._end_lent()
-        return _lib.neli_c_router_verdict(self._at, handle, said)
+        return _lib.neli_c_router_verdict(self._opened(), handle, said)
 
     def _close_request(self, handle):
-        self._end_lent()
-        _lib.neli_c_router_give_up(self._at, handle)
+        _lib.neli_c_router_give_up(self._opened(), handle)
 
     def _lend_into(self, handle, lent):
-        return _lib.neli_c_router_lend(self._opened(), handle, ctypes.byref(lent))
+        """An error message to groups is an item as any other."""
+        lent.bytes = ctypes.addressof(_NO_BYTES)
+        code = _lib.neli_c_router_lend(self._opened(), handle, ctypes.byref(lent))
+        return ITEM if handle == MULTICAST and code == KERNEL_ERROR else code
 
     def _pass(self, handle):
-        _lib.neli_c_router_pass(self._at, handle)
+        """Goes on; with multicast as a listener, whom no error ends."""
+        if handle == MULTICAST:
+            _lib.neli_c_router_listen(self._at, ctypes.byref(_Item()))
+        else:
+            _lib.neli_c_router_pass(self._at, handle)
 
     def _next(self, handle):
-        self._end_lent()
         item, read, self._said = _Item(), neli._Message(), None
         words = [ctypes.byref(item)] if handle == MULTICAST else [handle, ctypes.byref(item)]
         read_one = _lib.neli_c_router_listen if handle == MULTICAST else _lib.neli_c_router_read
@@ -220,6 +261,8 @@ class SimulatedSocket(neli.NetlinkSocket):
 
     def _error(self, code, number=0):
         attributes = []
+        if code == WAITS and self._is_stopped:
+            code, number = LINK, errno.ECANCELED
         if code == KERNEL_ERROR and self._said:
             answered, attributes = neli._answer_of(self._said)
             number = -answered
