@@ -359,6 +359,11 @@ class Lent(Message):
         return [_LentAttribute(self, it.number, it.flags, it.payload, it.payload + it.payload_length)
                 for it in _places(self._memory, start, end)]
 
+    @property
+    def _data(self):
+        """A copy, for what reads a message by its bytes."""
+        return bytes(self.payload)
+
     def attrs(self, header_size=None):
         """The attributes after the body's header, as of any message."""
         return self._attributes(self._start(header_size), len(self.payload))
@@ -376,7 +381,8 @@ class Lent(Message):
 
 def messages(data, family=None):
     """The messages of a datagram; ValueError if it cannot be read to its end."""
-    data, walk, found = bytes(data), _Walk(0, len(data)), []
+    data, found = bytes(data), []
+    walk = _Walk(0, len(data))
     while True:
         read = _Message()
         code = _lib.neli_c_next_message(data, len(data), ctypes.byref(walk), ctypes.byref(read))

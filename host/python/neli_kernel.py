@@ -147,7 +147,8 @@ class Request(neli.Message):
 
 def requests(data, port):
     """The requests of a datagram that the socket of a port sent; ValueError where it cannot be read to its end."""
-    data, walk, found = bytes(data), neli._Walk(0, len(data)), []
+    data, found = bytes(data), []
+    walk = neli._Walk(0, len(data))
     while True:
         read = _Request()
         code = _lib.neli_c_next_request(data, len(data), ctypes.byref(walk), port, ctypes.byref(read))

@@ -162,14 +162,15 @@ class Schema:
 
     def datagram_json(self, data, family=neli.NETLINK_ROUTE):
         """The messages of a datagram as lines of JSON, and one more for the fault behind them, if there is one."""
-        words = ctypes.byref(self._tables), family, bytes(data), len(data)
+        data = bytes(data)
+        words = ctypes.byref(self._tables), family, data, len(data)
         code, text = _written(_lib.neli_c_datagram_json, *words)
         _done(code)
         return text
 
     def dicts(self, data, family=neli.NETLINK_ROUTE):
         """The same as dictionaries."""
-        return [json.loads(it) for it in self.datagram_json(data, family).splitlines()]
+        return [json.loads(it) for it in self.datagram_json(data, family).split("\n") if it]
 
     def items(self, message):
         """The attributes of a message by name, those in nests behind the nest: `(path, kind, payload, value)` of each.
@@ -178,7 +179,7 @@ class Schema:
         message there are none. The message is walked once, so that the time grows with its length.
         """
         words, items, out = self._words(message), (_Named * 64)(), ctypes.create_string_buffer(4096)
-        count, size = ctypes.c_size_t(), ctypes.c_size_t()
+        count, size, data = ctypes.c_size_t(), ctypes.c_size_t(), words[2]
         while True:
             rooms = items, len(items), ctypes.byref(count), out, len(out), ctypes.byref(size)
             code = _lib.neli_c_named_items(*words, *rooms)
@@ -191,7 +192,7 @@ class Schema:
         _done(code)
         text = out.raw
         for named in items[: count.value]:
-            payload = message._data[named.payload : named.payload + named.payload_length]
+            payload = data[named.payload : named.payload + named.payload_length]
             path = _part(text, named.path, named.path_length)
             yield path, named.kind, payload, json.loads(_part(text, named.value, named.value_length))
 
