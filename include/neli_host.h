@@ -154,7 +154,7 @@ const char *neli_host_text(const struct neli_host *host, const struct neli_attri
 
 /* Writes why the kernel refused, after NELI_KERNEL_ERROR: the meaning of its number, its text and its offset, if it
  * sent these; or the meaning of another code. `host` and `message` may be null for a code that is not of the kernel or
- * the socket. */
+ * the socket, and `text` if `room` is 0. */
 void neli_host_explain(const struct neli_host *host, int32_t code, const struct neli_message *message, char *text,
                        size_t room);
 

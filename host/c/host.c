@@ -41,6 +41,7 @@ int32_t host_begin(struct neli_host *host, int family, const uint32_t *groups, s
     int32_t code = link_open(&host->link, family, groups, count);
     if (code != NELI_OK) return failed(host, host->link.fault);
     host->ledger.port = host->link.port;
+    host->ledger.family = family;
     return neli_router_new(&host->router, host->link.port);
 }
 
@@ -181,7 +182,7 @@ static int32_t hand_in_fault(struct neli_host *host) {
     if (code != NELI_OK) return code;
     if (!host->is_deaf) note_loss(&host->heard, host->last_fault);
     if (host->keeps_unasked) note_loss(&host->unheard, host->last_fault);
-    ledger_note_loss(&host->ledger);
+    ledger_note_loss(&host->ledger, host->last_fault);
     host->faults++;
     host->held.is_fault = false;
     return NELI_OK;
@@ -234,7 +235,7 @@ int32_t neli_host_send(struct neli_host *host, uint16_t type, uint16_t flags, co
     struct neli_sent sent;
     uint32_t number;
     int32_t code = ledger_reserve(&host->ledger, 1);
-    bool is_dump = (flags & NLM_F_DUMP) == NLM_F_DUMP;
+    bool is_dump = ledger_is_dump(&host->ledger, type, flags);
     if (code == NELI_OK &&
         (is_dump || host->ledger.is_congested || host->ledger.count > CROWD)) code = host_settle(host);
     if (code == NELI_OK) code = write_request(host, type, flags, body, length, &sent);
@@ -249,7 +250,7 @@ int32_t neli_host_send(struct neli_host *host, uint16_t type, uint16_t flags, co
         neli_router_close(&host->router, sent.handle);
         return failed(host, host->link.fault);
     }
-    ledger_add(&host->ledger, number, flags, sent.handle);
+    ledger_add(&host->ledger, number, flags, is_dump, sent.handle);
     *handle = sent.handle;
     return NELI_OK;
 }
@@ -311,6 +312,12 @@ static int32_t read_router(struct neli_host *host, size_t handle) {
     return code;
 }
 
+/* A handle got a fault of the socket: that of its request, which may not be the latest. */
+static int32_t lost(struct neli_host *host, size_t handle) {
+    const struct open *open = ledger_handle(&host->ledger, handle);
+    return failed(host, open != NULL && open->fault != 0 ? open->fault : host->last_fault);
+}
+
 /* Whether a message has been read at this code, though it may be one that cannot be read. */
 static bool has_read(int32_t code) {
     return code == NELI_ITEM || code == NELI_KERNEL_ERROR || code == NELI_SHORT || code == NELI_LENGTH ||
@@ -324,7 +331,7 @@ static int32_t read_now(struct neli_host *host, size_t handle, struct neli_messa
     if (handle == NELI_HOST_UNASKED) return read_unasked(host, message);
     if (fault != 0) return failed(host, fault);
     int32_t code = is_again ? host->taken_code : read_router(host, handle);
-    if (code == NELI_LINK) return failed(host, host->last_fault);
+    if (code == NELI_LINK) return lost(host, handle);
     if (handle == NELI_MULTICAST && !is_again && has_read(code)) host->heard.read++;
     if (code != NELI_ITEM && code != NELI_KERNEL_ERROR) return code;
     int32_t taken = take_item(host, message);
@@ -371,7 +378,7 @@ static int32_t lend_now(struct neli_host *host, size_t handle, struct neli_lent 
     int fault = handle == NELI_MULTICAST ? take_loss(&host->heard) : 0;
     if (fault != 0) return failed(host, fault);
     int32_t code = neli_router_lend(&host->router, handle, lent);
-    if (code == NELI_LINK) return failed(host, host->last_fault);
+    if (code == NELI_LINK) return lost(host, handle);
     return handle == NELI_MULTICAST && code == NELI_KERNEL_ERROR ? NELI_ITEM : code;
 }
 
@@ -404,18 +411,31 @@ int32_t neli_host_pass(struct neli_host *host, size_t handle) {
 
 /* ---- A picture ---- */
 
+/* Drops what waits for groups. At NELI_MEMORY the rest of it stays. */
+static int32_t drop_waiting(struct neli_host *host) {
+    int32_t code;
+    if (host->taken == NELI_MULTICAST) host->is_taken = false;
+    do {
+        while (take_loss(&host->heard) != 0) continue;
+        code = read_router(host, NELI_MULTICAST);
+        if (has_read(code)) {
+            host->heard.read++;
+            host->is_taken = false;
+        }
+    } while (has_read(code));
+    if (code == NELI_MEMORY) return code;
+    host->heard.read = host->heard.came;
+    host->heard.count = 0;
+    return NELI_OK;
+}
+
 /* Drops the messages that have arrived for groups, until none is left. */
 static int32_t drop_multicast(struct neli_host *host) {
     int64_t end = link_end_of_wait(&host->link);
     int32_t code = NELI_OK;
     while (code == NELI_OK && !link_is_over(end) && host->faults < FAULTS) {
-        int32_t read;
         code = take_in(host);
-        do
-            read = read_router(host, NELI_MULTICAST);
-        while (read != NELI_WAITS && read != NELI_HANDLE && read != NELI_MEMORY);
-        host->heard.read = host->heard.came;
-        host->heard.count = 0;
+        if (drop_waiting(host) != NELI_OK) return NELI_MEMORY;
     }
     if (code == NELI_OK) return failed(host, link_is_over(end) ? EAGAIN : host->last_fault);
     return code == NELI_WAITS ? NELI_OK : code;
@@ -496,6 +516,7 @@ void neli_host_explain(const struct neli_host *host, int32_t code, const struct 
                        size_t room) {
     struct neli_answer answer;
     bool is_answer = code == NELI_KERNEL_ERROR;
+    if (room == 0) return;
     if (is_answer && neli_get_answer(host->item, host->item_length, message, &answer) == NELI_OK) {
         if (answer.code > -INT_MAX && answer.code < 0) snprintf(text, room, "%s", strerror(-answer.code));
         else snprintf(text, room, "error %d", answer.code);

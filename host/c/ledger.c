@@ -1,14 +1,21 @@
 #include "ledger.h"
 #include <linux/netlink.h>
 #include <stdlib.h>
+#include <string.h>
 
 void ledger_free(struct ledger *ledger) {
     free(ledger->open);
     *ledger = (struct ledger){.is_settled = true};
 }
 
-static bool is_dump(uint16_t flags) {
-    return (flags & NLM_F_DUMP) == NLM_F_DUMP;
+bool ledger_is_dump(const struct ledger *ledger, uint16_t type, uint16_t flags) {
+    struct nlmsghdr header = {.nlmsg_len = sizeof header, .nlmsg_type = type, .nlmsg_flags = flags | NLM_F_REQUEST};
+    struct neli_walk walk = {0, sizeof header};
+    struct neli_request request;
+    uint8_t bytes[sizeof header];
+    memcpy(bytes, &header, sizeof header);
+    if (neli_next_request(bytes, sizeof bytes, &walk, ledger->port, &request) != NELI_ITEM) return false;
+    return (ledger->family == NETLINK_ROUTE ? request.wants_routing_dump : request.wants_dump) != 0;
 }
 
 int32_t ledger_reserve(struct ledger *ledger, size_t count) {
@@ -21,9 +28,10 @@ int32_t ledger_reserve(struct ledger *ledger, size_t count) {
     return NELI_OK;
 }
 
-void ledger_add(struct ledger *ledger, uint32_t number, uint16_t flags, size_t handle) {
-    ledger->open[ledger->count++] = (struct open){.number = number, .flags = flags, .handle = handle};
-    if (is_dump(flags)) ledger->is_settled = false;
+void ledger_add(struct ledger *ledger, uint32_t number, uint16_t flags, bool is_dump, size_t handle) {
+    struct open open = {.number = number, .flags = flags, .is_dump = is_dump, .handle = handle};
+    ledger->open[ledger->count++] = open;
+    if (is_dump) ledger->is_settled = false;
 }
 
 struct open *ledger_number(const struct ledger *ledger, uint32_t number) {
@@ -53,7 +61,9 @@ void ledger_end(struct ledger *ledger, struct open *open) {
     if (open->is_given_up) take_out(ledger, open);
 }
 
-void ledger_note_loss(struct ledger *ledger) {
+void ledger_note_loss(struct ledger *ledger, int fault) {
+    for (size_t i = 0; i < ledger->count; i++)
+        if (ledger->open[i].fault == 0) ledger->open[i].fault = fault;
     ledger->is_congested = true;
     ledger->is_settled = false;
 }
@@ -64,7 +74,7 @@ void ledger_note_quiet(struct ledger *ledger) {
     for (size_t i = ledger->count; i-- > 0;) {
         struct open *open = &ledger->open[i];
         if (open->is_given_up) take_out(ledger, open);
-        else if (is_dump(open->flags)) open->is_ended = true;
+        else if (open->is_dump) open->is_ended = true;
     }
     ledger->is_settled = true;
 }
@@ -76,7 +86,7 @@ struct open *ledger_request(const struct ledger *ledger, const struct neli_messa
 }
 
 bool ledger_ends(const struct open *open, const struct neli_message *message) {
-    bool awaits_ack = (open->flags & NLM_F_ACK) != 0 && !is_dump(open->flags);
+    bool awaits_ack = (open->flags & NLM_F_ACK) != 0 && !open->is_dump;
     if (message->type == NLMSG_ERROR || message->type == NLMSG_DONE) return true;
     return (message->flags & NLM_F_MULTI) == 0 && !awaits_ack;
 }

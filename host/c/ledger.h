@@ -8,13 +8,16 @@
 struct open {
     uint32_t number;
     uint16_t flags;
+    bool is_dump;     /* whether the kernel answers it by a dump */
     bool is_given_up; /* whether nobody reads its answer any more; its handle is closed then */
     bool is_ended;    /* whether the kernel has sent the last message of its answer */
+    int fault;        /* the first fault of the socket since it was sent, which ends an answer; or 0 */
     size_t handle;
 };
 
 struct ledger {
     uint32_t port;
+    int family;
     struct open *open;
     size_t count, room;
     bool is_settled;   /* whether no dump runs, and the kernel may answer nothing that was given up */
@@ -32,8 +35,12 @@ void ledger_free(struct ledger *ledger);
 /* Makes room for so many more requests, or returns NELI_MEMORY. */
 int32_t ledger_reserve(struct ledger *ledger, size_t count);
 
+/* Whether the kernel answers a request of this type with these flags by a dump. Routing reads them otherwise than other
+ * families. */
+bool ledger_is_dump(const struct ledger *ledger, uint16_t type, uint16_t flags);
+
 /* Notes a sent request, for which there is room. */
-void ledger_add(struct ledger *ledger, uint32_t number, uint16_t flags, size_t handle);
+void ledger_add(struct ledger *ledger, uint32_t number, uint16_t flags, bool is_dump, size_t handle);
 
 /* The request with this number, or that with this open handle; NULL if there is none. */
 struct open *ledger_number(const struct ledger *ledger, uint32_t number);
@@ -45,8 +52,8 @@ void ledger_give_up(struct ledger *ledger, struct open *open);
 /* Notes that its answer has ended, or that it was not sent. */
 void ledger_end(struct ledger *ledger, struct open *open);
 
-/* Notes a loss. From then on the kernel drops all for the socket, replies too, until it is empty. */
-void ledger_note_loss(struct ledger *ledger);
+/* Notes a loss by this fault. From then on the kernel drops all for the socket, replies too, until it is empty. */
+void ledger_note_loss(struct ledger *ledger, int fault);
 
 /* Notes that the socket is empty. The kernel answers while a request is sent, and continues a dump whenever the socket
  * is received from; so no dump runs, and given-up requests are answered, or will never be. */

@@ -114,26 +114,14 @@ static void a_loss_among_what_is_lent(void) {
     neli_host_close(host);
 }
 
-/* Hands in a message to the group of links, as the socket would. */
-static void notify(struct neli_host *host, uint16_t type, const void *body, size_t length) {
-    static const uint32_t group = RTNLGRP_LINK;
-    struct neli_writer writer = {0};
-    uint8_t out[64];
-    WANT(neli_begin_message(out, sizeof out, &writer, type, 0, 0, 0) == NELI_OK);
-    WANT(neli_put_bytes(out, sizeof out, &writer, body, length) == NELI_OK);
-    WANT(neli_end_message(out, sizeof out, &writer) == NELI_OK);
-    WANT(neli_router_datagram(&host->router, out, writer.end, &group, 1) == NELI_OK);
-    host->heard.came++;
-}
-
 /* An error message to groups is an item, and does not end them. */
 static void an_error_to_groups_is_lent(void) {
     struct neli_host *host = route_host(true);
     static const int32_t error[5] = {-ENODEV, 16, 0, 0, 0};
     static const struct ifinfomsg link = {.ifi_index = 7};
     struct neli_lent lent;
-    notify(host, NLMSG_ERROR, error, sizeof error);
-    notify(host, RTM_DELLINK, &link, sizeof link);
+    hand_in(host, NLMSG_ERROR, error, sizeof error);
+    hand_in(host, RTM_DELLINK, &link, sizeof link);
     WANT(neli_host_lend(host, NELI_MULTICAST, &lent) == NELI_ITEM && lent.message.type == NLMSG_ERROR);
     WANT(lent.error == -ENODEV && neli_host_pass(host, NELI_MULTICAST) == NELI_OK);
     WANT(next_notified(host, RTM_DELLINK) == 7 && host->heard.read == 2);

@@ -64,10 +64,6 @@ const uint8_t *neli_host_datagram(const struct neli_host *host) {
 
 /* ---- Several requests in one datagram ---- */
 
-static bool is_dump(uint16_t flags) {
-    return (flags & NLM_F_DUMP) == NLM_F_DUMP;
-}
-
 /* Requests that are written into `host->request` and not sent yet. */
 struct batch {
     size_t *handles, count;
@@ -108,7 +104,7 @@ int32_t neli_host_send_all(struct neli_host *host, const struct neli_host_reques
                            size_t *handles) {
     struct batch batch = {.handles = handles};
     size_t dumps = 0;
-    for (size_t i = 0; i < count; i++) dumps += is_dump(requests[i].flags);
+    for (size_t i = 0; i < count; i++) dumps += ledger_is_dump(&host->ledger, requests[i].type, requests[i].flags);
     if (dumps > 1) return NELI_KIND;
     if (count == 0) return NELI_OK;
     int32_t code = ledger_reserve(&host->ledger, count);
@@ -120,7 +116,9 @@ int32_t neli_host_send_all(struct neli_host *host, const struct neli_host_reques
         take_back(host, &batch);
         return code;
     }
-    for (size_t i = 0; i < count; i++)
-        ledger_add(&host->ledger, batch.first + (uint32_t)i, requests[i].flags, handles[i]);
+    for (size_t i = 0; i < count; i++) {
+        bool is_dump = ledger_is_dump(&host->ledger, requests[i].type, requests[i].flags);
+        ledger_add(&host->ledger, batch.first + (uint32_t)i, requests[i].flags, is_dump, handles[i]);
+    }
     return NELI_OK;
 }

@@ -98,6 +98,13 @@ static void a_refusal_with_text_and_offset(void) {
     WANT(code == NELI_KERNEL_ERROR);
     neli_host_explain(host, code, &message, text, sizeof text);
     WANT(strcmp(text, "Operation not supported: Unknown device type") == 0);
+    neli_host_explain(host, code, &message, text, 10);
+    WANT(strcmp(text, "Operation") == 0);
+    neli_host_explain(host, code, &message, text, 0);
+    neli_host_explain(host, code, &message, NULL, 0);
+    neli_host_explain(host, NELI_LINK, NULL, NULL, 0);
+    neli_host_explain(NULL, NELI_SHORT, NULL, NULL, 0);
+    WANT(strcmp(text, "Operation") == 0);
 
     /* The name takes 8 bytes after the headers, so that the other attribute lies at byte 40. */
     uint16_t mtu = 1500;

@@ -90,6 +90,16 @@ void want_loopback(struct neli_host *host, size_t handle) {
     WANT(neli_host_close_request(host, handle) == NELI_OK);
 }
 
+void hand_in(struct neli_host *host, uint16_t type, const void *body, size_t length) {
+    struct neli_writer writer = {0};
+    uint8_t out[64];
+    WANT(neli_begin_message(out, sizeof out, &writer, type, 0, 0, 0) == NELI_OK);
+    WANT(neli_put_bytes(out, sizeof out, &writer, body, length) == NELI_OK);
+    WANT(neli_end_message(out, sizeof out, &writer) == NELI_OK);
+    WANT(neli_router_datagram(&host->router, out, writer.end, &link_group, 1) == NELI_OK);
+    host->heard.came++;
+}
+
 void set_short_wait(struct neli_host *host) {
     host->link.wait = 200;
 }

@@ -43,6 +43,9 @@ int count_links(struct neli_host *host, size_t dump);
 /* The loopback link arrives, and then the acknowledgement; the handle is closed. */
 void want_loopback(struct neli_host *host, size_t handle);
 
+/* Hands in a message to the group of links, as the socket would. */
+void hand_in(struct neli_host *host, uint16_t type, const void *body, size_t length);
+
 /* A wait ends after a fifth of a second, as EAGAIN. */
 void set_short_wait(struct neli_host *host);
 

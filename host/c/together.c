@@ -60,6 +60,9 @@ static void a_refusal_sends_none(void) {
     size_t handles[3];
     size_t open = send_question(host, 1); /* which has the number 0 */
     WANT(neli_host_send_all(host, dumps, 3, handles) == NELI_KIND);
+    dumps[0].flags = NLM_F_ROOT;
+    dumps[2].flags = NLM_F_MATCH;
+    WANT(neli_host_send_all(host, dumps, 3, handles) == NELI_KIND);
     /* The third number is in use. */
     WANT(neli_router_set_number(&host->router, UINT32_MAX - 1) == NELI_OK);
     WANT(neli_host_send_all(host, requests, 3, handles) == NELI_IN_USE);

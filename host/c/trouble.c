@@ -108,6 +108,23 @@ static void a_dump_that_is_broken_off(void) {
     neli_host_close(host);
 }
 
+/* Routing begins a dump for either bit of NLM_F_DUMP. */
+static void a_dump_by_one_bit(void) {
+    static const uint16_t bits[] = {NLM_F_ROOT, NLM_F_MATCH};
+    struct neli_host *host = route_host(false);
+    struct ifinfomsg all = {0};
+    make_pairs(host, 60);
+    for (int i = 0; i < 2; i++) {
+        size_t first = send_dump(host), second;
+        WANT(neli_host_send(host, RTM_GETLINK, bits[i], &all, sizeof all, &second) == NELI_OK);
+        size_t third = send_dump(host);
+        WANT(count_links(host, third) == 121);
+        WANT(count_links(host, second) == 121);
+        WANT(count_links(host, first) == 121);
+    }
+    neli_host_close(host);
+}
+
 /* ---- What is kept ---- */
 
 size_t __sanitizer_get_current_allocated_bytes(void) __attribute__((weak));
@@ -210,6 +227,28 @@ static void a_loss_stands_where_it_came(void) {
     WANT(is_over(host, neli_host_next(host, NELI_MULTICAST, &message), ENOBUFS));
     WANT(neli_host_next(host, NELI_MULTICAST, &message) == NELI_ITEM);
     neli_host_close(other);
+    neli_host_close(host);
+}
+
+/* Hands in a fault of the socket. */
+static void hand_in_fault(struct neli_host *host, int fault) {
+    host->held.is_fault = true;
+    host->last_fault = fault;
+    host->ledger.is_settled = false;
+    WANT(host_settle(host) == NELI_OK);
+}
+
+static void each_request_has_its_own_fault(void) {
+    struct neli_host *host = route_host(false);
+    struct neli_message message;
+    struct neli_lent lent;
+    size_t first = send_question(host, 1);
+    hand_in_fault(host, ENOBUFS);
+    size_t second = send_question(host, 1);
+    hand_in_fault(host, EMSGSIZE);
+    WANT(is_over(host, neli_host_lend(host, first, &lent), ENOBUFS));
+    WANT(is_over(host, neli_host_next(host, first, &message), ENOBUFS));
+    WANT(is_over(host, neli_host_next(host, second, &message), EMSGSIZE));
     neli_host_close(host);
 }
 
@@ -565,14 +604,66 @@ static void memory_that_is_refused_once(void) {
     }
 }
 
+/* Whichever allocation of a resync is refused, what it has not dropped stays, and losses keep their places. */
+static void memory_that_is_refused_to_a_resync(void) {
+    static const int32_t error[5] = {-ENODEV, 16, 0, 0, 0};
+    static const struct ifinfomsg link = {.ifi_index = 7};
+    static struct picture picture;
+    bool was_refused = true;
+    for (unsigned k = 1; was_refused; k++) {
+        struct neli_host *host = route_host(true);
+        struct neli_message message;
+        WANT(k < 200);
+        set_short_wait(host);
+        hand_in(host, RTM_DELLINK, &link, sizeof link);
+        hand_in(host, NLMSG_ERROR, error, sizeof error);
+        hand_in(host, RTM_DELLINK, &link, sizeof link);
+        left_to_refusal = k;
+        int32_t code = resync(host, 1, &picture);
+        was_refused = left_to_refusal == 0;
+        left_to_refusal = 0;
+        WANT(code == NELI_OK || (was_refused && code == NELI_MEMORY));
+        hand_in_fault(host, ENOBUFS);
+        for (uint64_t left = host->heard.came - host->heard.read; left > 0; left--)
+            WANT(neli_host_next(host, NELI_MULTICAST, &message) == NELI_ITEM);
+        WANT(is_over(host, neli_host_next(host, NELI_MULTICAST, &message), ENOBUFS));
+        WANT(is_over(host, neli_host_next(host, NELI_MULTICAST, &message), EAGAIN));
+        WANT(resync(host, 1, &picture) == NELI_OK && picture.mtu[1] != 0);
+        neli_host_close(host);
+    }
+}
+
+/* An item that had no memory is dropped by a resync too, also by one whose request is then refused. */
+static void an_item_without_memory_is_dropped(void) {
+    static const uint8_t body[48];
+    static struct picture picture;
+    struct neli_host *host = route_host(true);
+    struct neli_message message;
+    set_short_wait(host);
+    for (unsigned k = 1; !host->is_taken; k++) {
+        WANT(k < 8);
+        /* Each is longer than those before, so that the room for an item grows. */
+        hand_in(host, RTM_DELLINK, body, sizeof(struct ifinfomsg) + 4 * k);
+        left_to_refusal = k;
+        (void)neli_host_next(host, NELI_MULTICAST, &message);
+    }
+    left_to_refusal = 0;
+    (void)send_unanswered(host);
+    WANT(neli_router_set_number(&host->router, 0) == NELI_OK && resync(host, 1, &picture) == NELI_IN_USE);
+    WANT(is_over(host, neli_host_next(host, NELI_MULTICAST, &message), EAGAIN));
+    neli_host_close(host);
+}
+
 static const struct test tests[] = {
     {"a_handle_that_is_closed_unread", a_handle_that_is_closed_unread},
     {"a_handle_that_is_closed_after_a_loss", a_handle_that_is_closed_after_a_loss},
     {"a_number_that_may_still_be_answered", a_number_that_may_still_be_answered},
     {"a_dump_that_is_broken_off", a_dump_that_is_broken_off},
+    {"a_dump_by_one_bit", a_dump_by_one_bit},
     {"what_nobody_reads_is_not_kept", what_nobody_reads_is_not_kept},
     {"an_echo_reaches_its_request", an_echo_reaches_its_request},
     {"a_loss_stands_where_it_came", a_loss_stands_where_it_came},
+    {"each_request_has_its_own_fault", each_request_has_its_own_fault},
     {"a_picture_is_right_after_a_storm", a_picture_is_right_after_a_storm},
     {"a_picture_by_a_larger_buffer", a_picture_by_a_larger_buffer},
     {"a_wait_has_an_end", a_wait_has_an_end},
@@ -584,6 +675,8 @@ static const struct test tests[] = {
     {"a_socket_that_is_gone", a_socket_that_is_gone},
     {"a_request_of_many_bytes", a_request_of_many_bytes},
     {"memory_that_is_refused_once", memory_that_is_refused_once},
+    {"memory_that_is_refused_to_a_resync", memory_that_is_refused_to_a_resync},
+    {"an_item_without_memory_is_dropped", an_item_without_memory_is_dropped},
 };
 
 int main(int argc, char **argv) {
