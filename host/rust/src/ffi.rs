@@ -513,9 +513,10 @@ pub fn netlink_option(fd: RawFd, name: c_int) -> io::Result<c_int> {
     Ok(value)
 }
 
-/// The groups that a socket is in, a bit each.
+/// The groups that a socket is in, a bit each. The kernel fills the room that there is; before Linux 6.4 the size that
+/// it returns may be too small.
 pub fn memberships(fd: RawFd) -> io::Result<Vec<u32>> {
-    let mut words: Vec<u32> = Vec::new();
+    let mut words: Vec<u32> = vec![0; 64];
     loop {
         let room = size_of_val(&words[..]);
         let mut size = room as c_uint;

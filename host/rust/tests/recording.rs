@@ -14,9 +14,10 @@ use neli::router::lending::LendingRouter;
 use neli::router::synchronous::{Missed, NlRouter, Notice, Verdict};
 use neli::rtnl::{Ifaddrmsg, IfaddrmsgBuilder, Ifinfomsg, IfinfomsgBuilder, RtattrBuilder};
 use neli::types::Buffer;
-use std::io::ErrorKind;
+use std::io::{self, ErrorKind};
 use std::net::Ipv4Addr;
 use std::sync::Arc;
+use std::sync::atomic::{AtomicBool, AtomicI32, Ordering};
 use std::time::Duration;
 
 type Outcome = Result<(), Box<dyn std::error::Error>>;
@@ -291,6 +292,45 @@ fn a_wait_has_an_end_while_more_arrives() -> Outcome {
     let (mut router, _multicast) = LendingRouter::over(Flooded(Some(Duration::from_millis(5))))?;
     let handle = router.send::<_, Buffer>(Nlmsg::Noop, NlmF::ACK, NlPayload::Empty)?;
     assert!(matches!(router.lend_next(&handle), Err(RouterError::Socket(it)) if is_over(&it)));
+    Ok(())
+}
+
+/// A link with one fault more at each receive that follows a request: numbers of the system from 1 on.
+#[derive(Debug, Default)]
+struct Faulty(AtomicI32, AtomicBool);
+
+impl Link for Faulty {
+    fn port(&self) -> u32 {
+        3
+    }
+
+    fn send(&self, _datagram: &[u8]) -> Result<(), SocketError> {
+        self.1.store(true, Ordering::Relaxed);
+        Ok(())
+    }
+
+    fn receive(&self, _room: &mut Vec<u8>) -> Result<Option<Arrived>, SocketError> {
+        if !self.1.swap(false, Ordering::Relaxed) {
+            return Ok(None);
+        }
+        Err(SocketError::Io(io::Error::from_raw_os_error(self.0.fetch_add(1, Ordering::Relaxed) + 1)))
+    }
+}
+
+#[test]
+fn each_request_has_its_own_fault() -> Outcome {
+    let number = |error: RouterError| match error {
+        RouterError::Socket(SocketError::Io(it)) => it.raw_os_error(),
+        _ => None,
+    };
+    let (router, mut multicast) = NlRouter::over(Faulty::default())?;
+    let mut handles = Vec::new();
+    for fault in 1..=3 {
+        handles.push(router.send::<_, Buffer, u16, Buffer>(Nlmsg::Noop, NlmF::ACK, NlPayload::Empty)?);
+        assert_eq!(multicast.next().and_then(|it| it.err().and_then(number)), Some(fault));
+    }
+    let found: Vec<_> = handles.iter_mut().map(|it| it.next().and_then(|it| it.err().and_then(number))).collect();
+    assert_eq!(found, [Some(1), Some(2), Some(3)]);
     Ok(())
 }
 

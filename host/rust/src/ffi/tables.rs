@@ -178,8 +178,9 @@ impl Tables {
 
     /// Adds the table of a text; of a bad one the number of the line, and the length of why it is bad.
     pub fn add(&mut self, text: Box<[u8]>, line: &mut usize, out: &mut [u8], length: &mut usize) -> i32 {
-        let (from, size) = (text.as_ptr(), text.len());
         self.texts.push(text);
+        let text = &self.texts[self.texts.len() - 1];
+        let (from, size) = (text.as_ptr(), text.len());
         // SAFETY: the tables are open, and borrowed exclusively; each pointer and its length are those of one slice. The
         // text is kept until the tables are freed, at its place: it is boxed, and nothing changes it.
         unsafe { neli_c_tables_add(&mut self.raw, from, size, line, out.as_mut_ptr(), out.len(), length) }

@@ -1,12 +1,28 @@
 //! The requests whose answers may still arrive, and the receiver of a message.
 
+use super::state::Fault;
 use crate::consts::nl::NlmF;
+use crate::consts::socket::NlFamily;
 use crate::ffi;
+use crate::ffi::kernel::{Request, next_request};
 use std::collections::HashMap;
 
 /// Types of messages: an error or an acknowledgement, and the end of a dump.
 const ERROR: u16 = 2;
 const DONE: u16 = 3;
+
+/// Whether the kernel answers a request of this type with these flags by a dump. Routing reads them otherwise than
+/// other families.
+pub(super) fn is_dump(family: NlFamily, kind: u16, flags: NlmF) -> bool {
+    let mut header = [0; 16];
+    header[..4].copy_from_slice(&16u32.to_ne_bytes());
+    header[4..6].copy_from_slice(&kind.to_ne_bytes());
+    header[6..8].copy_from_slice(&(flags | NlmF::REQUEST).bits().to_ne_bytes());
+    let mut request = Request::default();
+    next_request(&header, &mut ffi::Walk { place: 0, end: 16 }, 0, &mut request);
+    let wanted = if family == NlFamily::Route { request.wants_routing_dump } else { request.wants_dump };
+    wanted != 0
+}
 
 /// A request that the kernel may still answer, or whose handle is open.
 #[derive(Debug)]
@@ -14,18 +30,18 @@ struct Open {
     /// The handle of the library's router; none if the answer is no longer read.
     handle: Option<usize>,
     flags: NlmF,
+    /// Whether the kernel answers it by a dump.
+    is_dump: bool,
     /// Whether the kernel has sent the last message of its answer.
     is_ended: bool,
+    /// The first fault of the link since it was sent, which ends an answer.
+    fault: Option<Fault>,
 }
 
 impl Open {
-    fn is_dump(&self) -> bool {
-        self.flags.contains(NlmF::DUMP)
-    }
-
     /// Whether this message is the last one of the answer.
     fn ends_with(&self, message: &ffi::Message) -> bool {
-        let awaits_ack = self.flags.contains(NlmF::ACK) && !self.is_dump();
+        let awaits_ack = self.flags.contains(NlmF::ACK) && !self.is_dump;
         matches!(message.kind, ERROR | DONE) || (message.flags & NlmF::MULTI.bits() == 0 && !awaits_ack)
     }
 }
@@ -73,9 +89,9 @@ impl Ledger {
     }
 
     /// A request was sent.
-    pub(super) fn add(&mut self, number: u32, handle: usize, flags: NlmF) {
-        let open = Open { handle: Some(handle), flags, is_ended: false };
-        self.is_settled &= !open.is_dump();
+    pub(super) fn add(&mut self, number: u32, handle: usize, flags: NlmF, is_dump: bool) {
+        let open = Open { handle: Some(handle), flags, is_dump, is_ended: false, fault: None };
+        self.is_settled &= !is_dump;
         self.open.insert(number, open);
     }
 
@@ -101,10 +117,19 @@ impl Ledger {
         self.is_congested
     }
 
-    /// A datagram was lost. From then on the kernel drops all for the socket, replies too, until it is empty.
-    pub(super) fn note_loss(&mut self) {
+    /// A datagram was lost by this fault. From then on the kernel drops all for the socket, replies too, until it is
+    /// empty.
+    pub(super) fn note_loss(&mut self, fault: Fault) {
+        for open in self.open.values_mut() {
+            open.fault.get_or_insert(fault);
+        }
         self.is_congested = true;
         self.is_settled = false;
+    }
+
+    /// The fault that the request of this handle got.
+    pub(super) fn fault(&self, handle: usize) -> Option<Fault> {
+        self.open.values().find(|it| it.handle == Some(handle))?.fault
     }
 
     /// The socket is empty. The kernel answers while a request is sent, and continues a dump whenever the socket is
@@ -115,7 +140,7 @@ impl Ledger {
             return;
         }
         self.open.retain(|_, it| it.handle.is_some());
-        for dump in self.open.values_mut().filter(|it| it.is_dump()) {
+        for dump in self.open.values_mut().filter(|it| it.is_dump) {
             dump.is_ended = true;
         }
     }

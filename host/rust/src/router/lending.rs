@@ -1,5 +1,6 @@
 //! A router that lends: each item is read where the library keeps it, and no byte is copied.
 
+use super::ledger::is_dump;
 use super::state::{Lend, MULTICAST, State};
 use super::verdict::Verdict;
 use crate::ToBytes;
@@ -120,9 +121,9 @@ impl<L: Link + 'static> LendingRouter<L> {
         nl_flags: NlmF,
         nl_payload: NlPayload<T, P>,
     ) -> Result<LendingHandle, RouterError> {
-        let body = nl_payload.body()?;
-        self.state.settle(nl_flags.contains(NlmF::DUMP))?;
-        let (bytes, number, handle) = self.state.request(nl_type.into(), nl_flags, &body)?;
+        let (kind, body) = (nl_type.into(), nl_payload.body()?);
+        self.state.settle(is_dump(self.link.family(), kind, nl_flags))?;
+        let (bytes, number, handle) = self.state.request(kind, nl_flags, &body)?;
         if let Err(error) = self.link.send(&bytes) {
             self.state.take_back(number);
             return Err(error.into());

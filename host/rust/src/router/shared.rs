@@ -1,5 +1,6 @@
 //! The state that a router and its handles share, and their waits.
 
+use super::ledger::is_dump;
 use super::state::{State, Step};
 use crate::consts::nl::NlmF;
 use crate::err::{RouterError, SocketError};
@@ -28,7 +29,7 @@ impl Shared {
     /// Sends a request, and returns its number and its handle. The kernel runs one dump on a socket at a time, so a
     /// dump is sent when the one before has ended.
     pub(super) fn send(&self, kind: u16, flags: NlmF, body: &[u8]) -> Result<(u32, usize), RouterError> {
-        let is_dump = flags.contains(NlmF::DUMP);
+        let is_dump = is_dump(self.link.family(), kind, flags);
         let mut state = self.state();
         state.settle(is_dump)?;
         let (bytes, number, handle) = state.request(kind, flags, body)?;

@@ -1,6 +1,6 @@
 //! The state of a router: it takes in datagrams and faults of the link, and each handle reads its share.
 
-use super::ledger::{Ledger, Owners};
+use super::ledger::{Ledger, Owners, is_dump};
 use super::verdict::Verdict;
 use crate::consts::nl::NlmF;
 use crate::err::{RouterError, SocketError, refused};
@@ -187,7 +187,7 @@ impl State {
             self.router.set_number(number);
             return Err(RouterError::SeqInUse);
         }
-        self.ledger.add(number, sent.handle, flags);
+        self.ledger.add(number, sent.handle, flags, is_dump(self.link.family(), kind, flags));
         Ok((out, number, sent.handle))
     }
 
@@ -377,7 +377,7 @@ impl State {
         if let Some(losses) = &mut self.losses {
             losses.note(fault);
         }
-        self.ledger.note_loss();
+        self.ledger.note_loss(fault);
         if let Some(unasked) = &mut self.unasked {
             if unasked.back().is_some_and(Result::is_err) {
                 unasked.pop_back();
@@ -478,7 +478,7 @@ impl State {
                 {
                     losses.read += 1;
                 }
-                Step::Error(self.error(code))
+                Step::Error(self.error(handle, code))
             }
         }
     }
@@ -506,7 +506,7 @@ impl State {
             ffi::WAITS => Lend::Waits,
             ffi::END => Lend::End,
             code => {
-                let error = self.lent_error(code);
+                let error = self.lent_error(handle, code);
                 Lend::Error(self.pass(handle).err().unwrap_or(error))
             }
         }
@@ -539,11 +539,11 @@ impl State {
     }
 
     /// The error of a lend, by its code: the kernel's is the lent item.
-    fn lent_error(&self, code: i32) -> RouterError {
+    fn lent_error(&self, handle: usize, code: i32) -> RouterError {
         match self.lent().map(|it| it.to_nlmsghdr::<u16, Buffer>()) {
-            Some(Ok(message)) => message.into_err().map_or_else(|| self.error(code), RouterError::Nlmsgerr),
+            Some(Ok(message)) => message.into_err().map_or_else(|| self.error(handle, code), RouterError::Nlmsgerr),
             Some(Err(error)) => error.into(),
-            None => self.error(code),
+            None => self.error(handle, code),
         }
     }
 
@@ -569,14 +569,15 @@ impl State {
         }
     }
 
-    fn error(&self, code: i32) -> RouterError {
+    /// The error of a handle, by its code. A fault of the link is that of its request, which may not be the latest.
+    fn error(&self, handle: usize, code: i32) -> RouterError {
         match code {
             ffi::MEMORY => RouterError::Memory,
             ffi::STRAY => RouterError::BadSeqOrPid,
             ffi::NO_ACK => RouterError::NoAck,
             ffi::UNEXPECTED_ACK => RouterError::UnexpectedAck,
             ffi::HANDLE => RouterError::ClosedChannel,
-            ffi::LINK => self.fault.map_or(RouterError::ClosedChannel, Fault::error),
+            ffi::LINK => self.ledger.fault(handle).or(self.fault).map_or(RouterError::ClosedChannel, Fault::error),
             code => RouterError::De(refused(code).into()),
         }
     }

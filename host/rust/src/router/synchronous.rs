@@ -4,6 +4,7 @@
 //! threads can read handles of one router at a time: one of them waits at the socket, the others until their handles
 //! have something.
 
+use super::ledger::is_dump;
 pub use super::notice::{Missed, Notice};
 use super::shared::Shared;
 use super::state::{MULTICAST, UNASKED};
@@ -186,7 +187,8 @@ impl<L: Link + 'static> NlRouter<L> {
         for (nl_type, nl_flags, nl_payload) in requests {
             written.push((nl_type.into(), nl_flags, nl_payload.body()?));
         }
-        if written.iter().filter(|(_, flags, _)| flags.contains(NlmF::DUMP)).count() > 1 {
+        let family = self.link.family();
+        if written.iter().filter(|(kind, flags, _)| is_dump(family, *kind, *flags)).count() > 1 {
             return Err(RouterError::new("two dumps in one datagram"));
         }
         let sent = self.shared.send_all(&written)?;

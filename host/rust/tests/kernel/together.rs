@@ -18,8 +18,9 @@ fn question(index: i32) -> Request {
     (Rtm::Getlink, NlmF::ACK, NlPayload::Payload(link(index).build().expect("a link")))
 }
 
-fn dump_of_links() -> Request {
-    (Rtm::Getlink, NlmF::DUMP, NlPayload::Payload(link(0).build().expect("a link")))
+/// A request for all links. Routing begins a dump for either bit of `NLM_F_DUMP`.
+fn dump_of_links(flags: NlmF) -> Request {
+    (Rtm::Getlink, flags, NlPayload::Payload(link(0).build().expect("a link")))
 }
 
 /// The name in an answer, or the number with which it is refused.
@@ -33,7 +34,7 @@ fn each_request_of_a_datagram_has_its_answer() {
     alone(|| {
         let (router, _) = router(&[]);
         for _ in 0..3 {
-            let requests = [question(1), question(4711), dump_of_links(), question(1)];
+            let requests = [question(1), question(4711), dump_of_links(NlmF::DUMP), question(1)];
             let sent: Vec<Links> = router.send_all(requests).expect("they are sent");
             let [first, second, list, last] = <[Links; 4]>::try_from(sent).expect("each has a handle");
             assert_eq!(answer(last), Ok("lo".into()));
@@ -51,8 +52,11 @@ fn a_refusal_sends_none_of_a_datagram() {
     alone(|| {
         let (router, _) = router(&[]);
         let open: Links = router.send_all([question(1)]).expect("it is sent").remove(0);
-        let dumps: Result<Vec<Links>, RouterError> = router.send_all([dump_of_links(), question(1), dump_of_links()]);
-        assert!(matches!(dumps, Err(RouterError::Msg(_))));
+        for flags in [NlmF::DUMP, NlmF::ROOT, NlmF::MATCH] {
+            let two = [dump_of_links(NlmF::DUMP), question(1), dump_of_links(flags)];
+            let dumps: Result<Vec<Links>, RouterError> = router.send_all(two);
+            assert!(matches!(dumps, Err(RouterError::Msg(_))));
+        }
         // The third number is that of the first request, which is open.
         router.set_next_seq(u32::MAX - 1);
         let in_use: Result<Vec<Links>, RouterError> = router.send_all([question(1), question(1), question(1)]);

@@ -113,6 +113,23 @@ fn a_dump_that_is_broken_off_hinders_no_other() {
     });
 }
 
+#[test]
+fn a_dump_is_begun_by_one_bit() {
+    alone(|| {
+        let count = make_pairs(60);
+        let (router, _) = router(&[]);
+        for bit in [NlmF::ROOT, NlmF::MATCH] {
+            let all = NlPayload::Payload(link(0).build().expect("a link"));
+            let first = dump(&router);
+            let second: Links = router.send(Rtm::Getlink, bit, all).expect("a dump is asked for");
+            let third = dump(&router);
+            assert_eq!(names(third).len(), count);
+            assert_eq!(names(second).len(), count);
+            assert_eq!(names(first).len(), count);
+        }
+    });
+}
+
 /// The memory of the process, in bytes.
 fn memory() -> usize {
     let words = fs::read_to_string("/proc/self/statm").expect("the process has a memory");
