@@ -5,9 +5,11 @@ Each function of INSIDE is given the folder of the programs.
 
 import collections
 import concurrent.futures
+import fcntl
 import json
 import os
 import re
+import select
 import shutil
 import signal
 import struct
@@ -32,6 +34,11 @@ def ip(*words):
     said = run("ip", *words)
     assert said.returncode == 0, f"ip {' '.join(words)}: {said.stdout}"
     return said.stdout
+
+
+def ip_batch(lines):
+    said = run("ip", "-b", "-", input="\n".join(lines))
+    assert said.returncode == 0, said.stdout
 
 
 def ip_json(*words):
@@ -279,8 +286,7 @@ def try_monitor(at):
     try:
         wait_for("monitor begins", lambda: monitored(paths[0])[:1] == [{"monitoring": True}])
         wait_for("ip monitor begins", lambda: has_joined(children[1].pid))
-        changes = run("ip", "-b", "-", input="\n".join(two_hundred_changes()))
-        assert changes.returncode == 0, changes.stdout
+        ip_batch(two_hundred_changes())
         ip("link", "del", "one")
         wait_for("the last change", lambda: kinds(monitored(paths[0]))["LINK", True] == 2)
         wait_for("the last change, by ip", lambda: kinds_by_ip(lines_in(paths[1]))["LINK", True] == 2)
@@ -295,6 +301,7 @@ def try_monitor(at):
     assert all(re.fullmatch(r"[-0-9]+T[:0-9]+\.[0-9]{6}Z", it["time"]) for it in monitored(paths[0])[1:])
     try_monitor_losses(at)
     try_monitored_text(at)
+    try_monitor_unread(at)
     refused("nope: No such file or directory", f"{at}/monitor", "nope")
 
 
@@ -323,6 +330,17 @@ def try_monitor_losses(at):
     wait_for("what came after it", lambda: kinds(monitored(path))["RULE", False] == 1)
     child.terminate()
     assert child.wait(timeout=10) == 4
+
+
+def try_monitor_unread(at):
+    """One whose output nobody reads ends by a signal all the same, with the status for what was not printed."""
+    child = started(f"{at}/monitor", "route")
+    fcntl.fcntl(child.stdout, fcntl.F_SETPIPE_SZ, 4096)
+    ip_batch([f"link set dev lo mtu {1500 + it}" for it in range(300)])
+    wait_for("a full pipe", lambda: select.select([child.stdout], [], [], 0)[0])
+    child.terminate()
+    assert child.wait(timeout=10) == 4
+    child.stdout.close()
 
 
 def try_replay(at):
@@ -355,6 +373,8 @@ def try_replay(at):
     opened = run(f"{at}/replay", path, sys.executable, "-c", many, **how).stdout
     assert "\n63 " in opened and "\n64 " not in opened and "[Errno 24]" in opened, opened
     try_replayed_notifications(at, path, how)
+    try_recorded_together(at, how)
+    try_recorded_group(at)
     with open(path, "r+b") as it:
         it.truncate(os.path.getsize(path) - 1)
     refused = run(f"{at}/replay", path, "true", **how)
@@ -371,6 +391,47 @@ def try_replayed_notifications(at, path, how):
     played = run("unshare", "-n", f"{at}/replay", path, f"{at}/monitor", "-j", "-c", "4", "route", **how)
     found = [json.loads(it) for it in played.stdout.splitlines()]
     assert played.returncode == 0 and kinds(found) == {("LINK", False): 4}, played
+
+
+def try_recorded_together(at, how):
+    """Processes that record into one file at the same time: each frame is whole, and there are those of all."""
+    path = f"{OUT}/together"
+    ip_batch([f"link add name c{it} type veth peer name d{it}" for it in range(60)])
+    count = len(ip_json("link"))
+    for _ in range(3):
+        words = "for it in 1 2 3 4 5 6 7 8; do ip link > /dev/null & done; wait"
+        assert run(f"{at}/record", path, "sh", "-c", words, **how).returncode == 0
+        frames = frames_of(path)
+        links = [it for _, _, protocol, data in frames if protocol == 0 for it in types_in(data)].count(16)
+        assert links == 8 * count, links
+    os.remove(path)
+
+
+def types_in(datagram):
+    """The types of the messages of a datagram."""
+    place = 0
+    while place < len(datagram):
+        length, number = struct.unpack_from("<IH", datagram, place)
+        yield number
+        place += (length + 3) & ~3
+
+
+def try_recorded_group(at):
+    """A group above 32, which no address states: RTNLGRP_STATS is 36, and RTM_NEWSTATS 92."""
+    path = f"{OUT}/group"
+    child = started("env", "ASAN_OPTIONS=verify_asan_link_order=0", f"{at}/record", path, f"{at}/monitor", "route")
+    run("ip", "stats", "set", "dev", "lo", "l3_stats", "on")
+    ip("link", "set", "lo", "mtu", "1400")
+    assert "  IFLA_MTU 1400\n" in iter(child.stdout.readline, "")
+    child.terminate()
+    assert child.wait(timeout=10) == 0
+    child.stdout.close()
+    found = [it[1] for it in frames_of(path) if 92 in types_in(it[3])]
+    if found:
+        assert found == [36], found
+    else:
+        not_run("record of a group above 32", "ip or this kernel has no statistics of links to set")
+    os.remove(path)
 
 
 def storm_by(seed, at):

@@ -4,12 +4,13 @@
  * is `"time"`. A family is `route`, or one of generic netlink by its name.
  *
  * Where some were lost it says so, as `lost some: No buffer space available`, with -j as a member `"lost"`, and goes on.
- * It ends after COUNT messages, or by SIGINT or SIGTERM: with status 0 where all are there, and 4 where not. -b sets the
- * size of the socket's buffer, which is 4 MiB where the system lets it. */
+ * It ends after COUNT messages, or by SIGINT or SIGTERM, also while nobody reads what it prints: with status 0 where
+ * all are printed, and 4 where not. -b sets the size of the socket's buffer: 4 MiB where the system lets it. */
 #define _GNU_SOURCE
 #include "groups.h"
 #include "request.h"
 #include <errno.h>
+#include <limits.h>
 #include <linux/genetlink.h>
 #include <linux/netlink.h>
 #include <linux/rtnetlink.h>
@@ -30,6 +31,8 @@ static struct neli_host *hosts[2]; /* of routing, and of generic netlink, where 
 static unsigned long left = -1ul;
 static enum status status = STATUS_COMPLETE;
 static volatile sig_atomic_t is_stopped;
+static sigset_t waiting; /* the signals that stay blocked while it waits */
+static FILE *out;        /* the standard output */
 
 static void stop(int number) {
     (void)number;
@@ -39,6 +42,27 @@ static void stop(int number) {
 static void not_begun(const char *what, const char *why) {
     fprintf(stderr, "monitor: %s: %s\n", what, why);
     exit(STATUS_NOT_BEGUN);
+}
+
+/* Writes to the standard output. A signal ends a wait for its reader, and from then on there is none. A pipe that has
+ * room takes PIPE_BUF bytes at once. */
+static ssize_t put_out(void *none, const char *bytes, size_t length) {
+    static const struct timespec no_time;
+    struct pollfd watched = {.fd = STDOUT_FILENO, .events = POLLOUT};
+    size_t at = 0;
+    (void)none;
+    while (at < length) {
+        int found = ppoll(&watched, 1, is_stopped ? &no_time : NULL, &waiting);
+        if (found < 0 && errno == EINTR) continue;
+        size_t part = length - at < PIPE_BUF ? length - at : PIPE_BUF;
+        ssize_t written = found > 0 ? write(STDOUT_FILENO, bytes + at, part) : -1;
+        if (written < 0) {
+            status = STATUS_LOST;
+            break;
+        }
+        at += (size_t)written;
+    }
+    return (ssize_t)at;
 }
 
 /* Opens the socket of a protocol, if it is not open. */
@@ -113,7 +137,7 @@ static void print_time(void) {
     char date[32];
     clock_gettime(CLOCK_REALTIME, &now);
     strftime(date, sizeof date, "%Y-%m-%dT%H:%M:%S", gmtime_r(&now.tv_sec, &parts));
-    printf(is_json ? "{\"time\":\"%s.%06ldZ\"," : "%s.%06ldZ ", date, now.tv_nsec / 1000);
+    fprintf(out, is_json ? "{\"time\":\"%s.%06ldZ\"," : "%s.%06ldZ ", date, now.tv_nsec / 1000);
 }
 
 /* A message as text or as JSON, for which the room grows. */
@@ -136,8 +160,9 @@ static size_t written(const struct neli_host *host, const struct neli_message *m
 static void print_message(const struct neli_host *host, const struct neli_message *message) {
     size_t size = written(host, message), begin = is_json ? 1 : 0;
     print_time();
-    fwrite(text + begin, 1, size - begin, stdout);
-    if (is_json) putchar('\n');
+    fwrite(text + begin, 1, size - begin, out);
+    if (is_json) fputc('\n', out);
+    fflush(out);
 }
 
 /* Prints what is there. */
@@ -154,28 +179,33 @@ static void print_all(struct neli_host *host) {
         char why[128];
         neli_host_explain(host, code, NULL, why, sizeof why);
         print_time();
-        printf(is_json ? "\"lost\":\"%s\"}\n" : "lost some: %s\n", why);
+        fprintf(out, is_json ? "\"lost\":\"%s\"}\n" : "lost some: %s\n", why);
+        fflush(out);
         status = STATUS_LOST;
     }
 }
 
-/* Prints until enough has come, or a signal has. */
-static void watch(void) {
+/* From now on these signals come while it waits, and end it. */
+static void end_by_signals(void) {
     struct sigaction action = {.sa_handler = stop};
-    sigset_t both, before;
-    struct pollfd watched[2];
+    sigset_t both;
     sigemptyset(&both);
     sigaddset(&both, SIGINT);
     sigaddset(&both, SIGTERM);
-    sigprocmask(SIG_BLOCK, &both, &before);
+    sigprocmask(SIG_BLOCK, &both, &waiting);
     sigaction(SIGINT, &action, NULL);
     sigaction(SIGTERM, &action, NULL);
+}
+
+/* Prints until enough has come, or a signal has. */
+static void watch(void) {
+    struct pollfd watched[2];
     for (int i = 0; i < 2; i++) {
         watched[i] = (struct pollfd){.fd = hosts[i] != NULL ? neli_host_fd(hosts[i]) : -1, .events = POLLIN};
         if (hosts[i] != NULL) neli_host_set_wait(hosts[i], 0);
     }
     while (left > 0 && !is_stopped) {
-        (void)ppoll(watched, 2, NULL, &before);
+        (void)ppoll(watched, 2, NULL, &waiting);
         for (int i = 0; i < 2; i++)
             if (hosts[i] != NULL) print_all(hosts[i]);
     }
@@ -197,8 +227,11 @@ int main(int argc, char **argv) {
         if (strcmp(argv[i], "route") == 0) join_route((int)size);
         else join_generic(argv[i], (int)size);
     }
-    setvbuf(stdout, NULL, _IOLBF, 0);
-    puts(is_json ? "{\"monitoring\":true}" : "monitoring");
+    out = fopencookie(NULL, "w", (cookie_io_functions_t){.write = put_out});
+    if (out == NULL) not_begun("the output", "no memory");
+    end_by_signals();
+    fputs(is_json ? "{\"monitoring\":true}\n" : "monitoring\n", out);
+    fflush(out);
     watch();
     for (int i = 0; i < 2; i++) neli_host_close(hosts[i]);
     neli_tables_free(&tables);

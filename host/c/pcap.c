@@ -1,8 +1,11 @@
 #define _GNU_SOURCE
 #include "pcap.h"
 #include <arpa/inet.h>
+#include <errno.h>
+#include <fcntl.h>
 #include <linux/if_arp.h>
 #include <string.h>
+#include <sys/uio.h>
 #include <time.h>
 
 /* Times are in microseconds. The longest frame is what Wireshark reads, and the link type LINKTYPE_NETLINK. */
@@ -28,12 +31,26 @@ struct cooked_header {
     uint16_t protocol;
 };
 
-bool pcap_begin(FILE *file) {
-    struct file_header header = {MAGIC, 2, 4, 0, 0, LONGEST, LINK_TYPE};
-    return fwrite(&header, sizeof header, 1, file) == 1 && fflush(file) == 0;
+int pcap_create(const char *path, bool goes_on) {
+    return open(path, O_WRONLY | O_CREAT | O_APPEND | O_CLOEXEC | (goes_on ? 0 : O_TRUNC), 0666);
 }
 
-bool pcap_put(FILE *file, const struct pcap_frame *frame) {
+/* Writes parts by one call, so that no other process writes between them. A full disk takes less of them. */
+static bool is_written(int file, const struct iovec *parts, int count) {
+    size_t length = 0;
+    for (int i = 0; i < count; i++) length += parts[i].iov_len;
+    ssize_t written = writev(file, parts, count);
+    if (written >= 0 && (size_t)written < length) errno = ENOSPC;
+    return written >= 0 && (size_t)written == length;
+}
+
+bool pcap_begin(int file) {
+    struct file_header header = {MAGIC, 2, 4, 0, 0, LONGEST, LINK_TYPE};
+    struct iovec part = {&header, sizeof header};
+    return is_written(file, &part, 1);
+}
+
+bool pcap_put(int file, const struct pcap_frame *frame) {
     struct timespec now;
     clock_gettime(CLOCK_REALTIME, &now);
     uint32_t length = (uint32_t)(sizeof(struct cooked_header) + frame->length);
@@ -48,8 +65,9 @@ bool pcap_put(FILE *file, const struct pcap_frame *frame) {
         cooked.address_length = htons(sizeof address);
         memcpy(cooked.address, &address, sizeof address);
     }
-    return fwrite(&header, sizeof header, 1, file) == 1 && fwrite(&cooked, sizeof cooked, 1, file) == 1 &&
-           (frame->length == 0 || fwrite(frame->bytes, frame->length, 1, file) == 1) && fflush(file) == 0;
+    struct iovec parts[] = {
+        {&header, sizeof header}, {&cooked, sizeof cooked}, {(void *)(uintptr_t)frame->bytes, frame->length}};
+    return is_written(file, parts, 3);
 }
 
 static uint32_t number(const struct pcap_file *file, uint32_t read) {

@@ -5,7 +5,6 @@
 #include <stdbool.h>
 #include <stddef.h>
 #include <stdint.h>
-#include <stdio.h>
 
 /* Where a datagram went, as the type of a frame in its cooked header. */
 enum pcap_way {
@@ -24,11 +23,16 @@ struct pcap_frame {
     size_t length;
 };
 
-/* Writes the header of a file. */
-bool pcap_begin(FILE *file);
+/* Opens a file to append frames to, by several processes at the same time; or returns -1. Without `goes_on` what it had
+ * is removed. */
+int pcap_create(const char *path, bool goes_on);
 
-/* Writes a frame that passed now, at once. The group or the port stands in it as an address of four bytes. */
-bool pcap_put(FILE *file, const struct pcap_frame *frame);
+/* Writes the header of a file. False, with errno, if not all of it is written. */
+bool pcap_begin(int file);
+
+/* Writes a frame that passed now, at once. The group or the port stands in it as an address of four bytes. False, with
+ * errno, if not all of it is written. */
+bool pcap_put(int file, const struct pcap_frame *frame);
 
 /* A file that is in memory, and the place of its next frame. */
 struct pcap_file {

@@ -40,7 +40,7 @@ static struct netlink sockets[SOCKETS];
 static size_t socket_count;
 static struct play play;
 static bool is_playing;
-static FILE *recorded;
+static int recorded = -1;
 static uint8_t room[ROOM + sizeof(uint32_t)];
 static pthread_mutex_t lock = PTHREAD_MUTEX_INITIALIZER;
 
@@ -65,8 +65,8 @@ static void open_played(const char *path) {
 
 static void open_recorded(const char *path) {
     struct stat about;
-    recorded = fopen(path, "abe");
-    if (recorded == NULL || fstat(fileno(recorded), &about) < 0) not_begun(path, strerror(errno));
+    recorded = pcap_create(path, true);
+    if (recorded < 0 || fstat(recorded, &about) < 0) not_begun(path, strerror(errno));
     if (about.st_size == 0 && !pcap_begin(recorded)) not_begun(path, strerror(errno));
 }
 
@@ -183,9 +183,22 @@ static void keep(const struct netlink *it, enum pcap_way way, uint32_t group, co
     if (!pcap_put(recorded, &frame)) fprintf(stderr, "record: %s\n", strerror(errno));
 }
 
+/* The group of a datagram: by the control message, if the program has it, or by the address, which states none above
+ * 32; else 0. */
+static uint32_t group_of(struct msghdr *header, const struct sockaddr_nl *from) {
+    for (struct cmsghdr *it = CMSG_FIRSTHDR(header); it != NULL; it = CMSG_NXTHDR(header, it)) {
+        struct nl_pktinfo info;
+        if (it->cmsg_level != SOL_NETLINK || it->cmsg_type != NETLINK_PKTINFO) continue;
+        if (it->cmsg_len < CMSG_LEN(sizeof info)) continue;
+        memcpy(&info, CMSG_DATA(it), sizeof info);
+        return info.group;
+    }
+    return (uint32_t)__builtin_ffs((int)from->nl_groups);
+}
+
 /* Keeps what a receive has given, where the caller had room for all of it. */
-static void keep_received(const struct netlink *it, const struct msghdr *header, size_t length) {
-    const struct sockaddr_nl *from = header->msg_name;
+static void keep_received(const struct netlink *it, struct msghdr *header, const struct sockaddr_nl *from,
+                          size_t length) {
     size_t kept = 0;
     for (size_t i = 0; i < header->msg_iovlen && kept < length; i++) {
         size_t part = header->msg_iov[i].iov_len < length - kept ? header->msg_iov[i].iov_len : length - kept;
@@ -197,7 +210,7 @@ static void keep_received(const struct netlink *it, const struct msghdr *header,
         fputs("record: a datagram was cut by the program, and is not kept\n", stderr);
         return;
     }
-    uint32_t group = from->nl_groups != 0 ? (uint32_t)__builtin_ffs((int)from->nl_groups) : 0;
+    uint32_t group = group_of(header, from);
     keep(it, group != 0 ? PCAP_GROUP : PCAP_RECEIVED, group, room, length);
 }
 
@@ -206,6 +219,7 @@ static void keep_received(const struct netlink *it, const struct msghdr *header,
 static ssize_t receive(struct netlink *it, struct msghdr *header, int flags) {
     struct sockaddr_nl from = {0};
     void *name = header->msg_name;
+    socklen_t size = name != NULL ? header->msg_namelen : 0;
     if (is_playing) {
         pthread_mutex_lock(&lock);
         struct received found = take(it, flags);
@@ -213,17 +227,16 @@ static ssize_t receive(struct netlink *it, struct msghdr *header, int flags) {
         pthread_mutex_unlock(&lock);
         return length;
     }
-    if (name == NULL) {
-        header->msg_name = &from;
-        header->msg_namelen = sizeof from;
-    }
+    header->msg_name = &from;
+    header->msg_namelen = sizeof from;
     ssize_t length = REAL(recvmsg)(it->fd, header, flags);
     int before = errno;
     pthread_mutex_lock(&lock);
-    if (length > 0 && (flags & MSG_PEEK) == 0) keep_received(it, header, (size_t)length);
+    if (length > 0 && (flags & MSG_PEEK) == 0) keep_received(it, header, &from, (size_t)length);
     pthread_mutex_unlock(&lock);
     header->msg_name = name;
-    if (name == NULL) header->msg_namelen = 0;
+    if (length < 0 || name == NULL) header->msg_namelen = size;
+    else memcpy(name, &from, size < header->msg_namelen ? size : header->msg_namelen);
     errno = before;
     return length;
 }
@@ -252,7 +265,7 @@ int socket(int domain, int type, int protocol) {
     static pthread_once_t once = PTHREAD_ONCE_INIT;
     int both[2] = {-1, -1}, large = 1 << 22;
     if (domain == AF_NETLINK) pthread_once(&once, begin);
-    if (domain != AF_NETLINK || (!is_playing && recorded == NULL)) return REAL(socket)(domain, type, protocol);
+    if (domain != AF_NETLINK || (!is_playing && recorded < 0)) return REAL(socket)(domain, type, protocol);
     if (is_playing) {
         int kind = SOCK_SEQPACKET | (type & (SOCK_CLOEXEC | SOCK_NONBLOCK));
         if (socketpair(AF_UNIX, kind, 0, both) < 0) return -1;

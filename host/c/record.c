@@ -33,7 +33,7 @@ static void end_by_signals(void) {
 }
 
 /* Writes what comes, and gives the status. */
-static enum status record(FILE *file, uint16_t protocol, unsigned long count) {
+static enum status record(int file, uint16_t protocol, unsigned long count) {
     enum status status = STATUS_COMPLETE;
     while (count > 0) {
         struct pcap_frame frame = {.way = PCAP_RECEIVED, .protocol = protocol};
@@ -47,7 +47,10 @@ static enum status record(FILE *file, uint16_t protocol, unsigned long count) {
         if (code != NELI_OK) fail(host, "record", code, NULL);
         frame.bytes = neli_host_datagram(host);
         if (frame.group != 0) frame.way = PCAP_GROUP;
-        if (!pcap_put(file, &frame)) break;
+        if (!pcap_put(file, &frame)) {
+            fprintf(stderr, "record: %s\n", strerror(errno));
+            return STATUS_NOT_BEGUN;
+        }
         count--;
     }
     return status;
@@ -67,24 +70,23 @@ int main(int argc, char **argv) {
         fputs(usage, stderr);
         return STATUS_NOT_BEGUN;
     }
-    FILE *file = strcmp(argv[optind], "-") == 0 ? stdout : fopen(argv[optind], "wb");
-    if (file == NULL || !pcap_begin(file)) {
+    int file = strcmp(argv[optind], "-") == 0 ? STDOUT_FILENO : pcap_create(argv[optind], false);
+    if (file < 0 || !pcap_begin(file)) {
         fprintf(stderr, "record: %s\n", strerror(errno));
         return STATUS_NOT_BEGUN;
     }
     if (is_command) {
-        fclose(file);
+        close(file);
         run_preloaded("record", "NELI_RECORD", argv[1], argv + 2);
         return STATUS_NOT_BEGUN;
     }
     open_or_fail(&host, groups.protocol, groups.at, groups.count);
     end_by_signals();
-    fputs("recording\n", file == stdout ? stderr : stdout);
+    fputs("recording\n", file == STDOUT_FILENO ? stderr : stdout);
     fflush(stdout);
     enum status status = record(file, (uint16_t)groups.protocol, count);
     neli_host_close(host);
-    bool is_written = ferror(file) == 0;
-    if (fclose(file) != 0 || !is_written) {
+    if (close(file) != 0) {
         fprintf(stderr, "record: %s\n", strerror(errno));
         return STATUS_NOT_BEGUN;
     }
