@@ -1,7 +1,6 @@
 #define _GNU_SOURCE
 #include "pcap.h"
 #include <arpa/inet.h>
-#include <errno.h>
 #include <fcntl.h>
 #include <linux/if_arp.h>
 #include <string.h>
@@ -35,13 +34,19 @@ int pcap_create(const char *path, bool goes_on) {
     return open(path, O_WRONLY | O_CREAT | O_APPEND | O_CLOEXEC | (goes_on ? 0 : O_TRUNC), 0666);
 }
 
-/* Writes parts by one call, so that no other process writes between them. A full disk takes less of them. */
-static bool is_written(int file, const struct iovec *parts, int count) {
-    size_t length = 0;
-    for (int i = 0; i < count; i++) length += parts[i].iov_len;
-    ssize_t written = writev(file, parts, count);
-    if (written >= 0 && (size_t)written < length) errno = ENOSPC;
-    return written >= 0 && (size_t)written == length;
+/* Writes parts by one call, so that no other process writes between them. A pipe takes less of them where a signal ends
+ * its wait, and a disk that gets full: then the rest follows, or the next call says why it does not. */
+static bool is_written(int file, struct iovec *parts, int count) {
+    while (count > 0) {
+        ssize_t written = writev(file, parts, count);
+        if (written < 0) return false;
+        size_t left = (size_t)written;
+        for (; count > 0 && left >= parts->iov_len; count--) left -= (parts++)->iov_len;
+        if (count == 0) break;
+        parts->iov_base = (uint8_t *)parts->iov_base + left;
+        parts->iov_len -= left;
+    }
+    return true;
 }
 
 bool pcap_begin(int file) {
