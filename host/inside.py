@@ -335,7 +335,7 @@ def try_monitor_losses(at):
 def try_monitor_unread(at):
     """One whose output nobody reads ends by a signal all the same, with the status for what was not printed."""
     child = started(f"{at}/monitor", "route")
-    fcntl.fcntl(child.stdout, fcntl.F_SETPIPE_SZ, 4096)
+    fcntl.fcntl(child.stdout, getattr(fcntl, "F_SETPIPE_SZ", 1031), 4096)  # which Python names from 3.10 on
     ip_batch([f"link set dev lo mtu {1500 + it}" for it in range(300)])
     wait_for("a full pipe", lambda: select.select([child.stdout], [], [], 0)[0])
     child.terminate()
