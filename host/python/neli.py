@@ -508,7 +508,7 @@ class _Socket:
     """What the socket of the kernel and the simulated one share, over calls of a library that each has of its own."""
 
     def __init__(self, family=NETLINK_ROUTE, groups=()):
-        self.family, self._at, self._said, self._lent, self._is_busy = family, None, None, None, False
+        self.family, self._at, self._said, self._lent, self._under_way = family, None, None, None, {}
         self._dropped = []  # the handles that nobody keeps; each time it is opened it has a list of its own
         self._call(self._open, list(groups))
 
@@ -541,18 +541,21 @@ class _Socket:
 
     def _call(self, call, *words):
         """Does what may change what the library keeps. A signal's handler may run in it, and begins no other."""
-        if self._is_busy:
-            raise RuntimeError("a call of this socket is under way: meanwhile only stop may be called")
+        own = []
         try:
-            self._is_busy = True
-            self._end_lent()
+            # One step, so that no other thread runs within it.
+            if self._under_way.setdefault(0, own) is not own:
+                raise RuntimeError("a call of this socket is under way: meanwhile only stop may be called")
+            if self._lent:
+                self._end_lent()
             while self._dropped:
                 self._close_request(self._dropped.pop())
             result = call(*words)
-            self._is_busy = False
+            del self._under_way[0]
             return result
         except BaseException:  # and not `finally`, before which a handler may raise
-            self._is_busy = False
+            if self._under_way.get(0) is own:
+                del self._under_way[0]
             raise
 
     def _well(self, code):
@@ -561,11 +564,10 @@ class _Socket:
 
     def _end_lent(self):
         """Ends what is lent, before each call that may change what the library keeps."""
-        if self._lent:
-            handle, message = self._lent
-            message._release()
-            self._lent = None
-            self._pass(handle)
+        handle, message = self._lent
+        message._release()
+        self._lent = None
+        self._pass(handle)
 
     def _lend(self, handle):
         """The next item of a handle, lent until the next call, which goes on to the one after it."""
