@@ -20,7 +20,7 @@ import os
 import struct
 
 import neli
-from neli import END, ITEM, KERNEL_ERROR, KIND, LINK, MULTICAST, NLM_F_ACK, NLM_F_DUMP, OK, ROOM, WAITS
+from neli import END, ITEM, KERNEL_ERROR, KIND, LINK, MULTICAST, NLM_F_ACK, OK, ROOM, WAITS
 
 __all__ = ["SimulatedSocket", "Request", "requests", "notification"]
 
@@ -213,9 +213,14 @@ class SimulatedSocket(neli._Socket):
         """As one `request` after the other."""
         requests = [(kind, flags, bytes(body)) for kind, flags, body in requests]
         self._opened()
-        if sum(flags & NLM_F_DUMP == NLM_F_DUMP for _, flags, _ in requests) > 1:
+        if sum(self._is_dump(kind, flags) for kind, flags, _ in requests) > 1:
             raise self._error(KIND)
         return [self.request(*it) for it in requests]
+
+    def _is_dump(self, msg_type, msg_flags):
+        """Whether a kernel answers it by a dump: routing reads the flags otherwise than other families."""
+        (read,) = requests(struct.pack("=IHHII", 16, msg_type, msg_flags | neli.NLM_F_REQUEST, 0, 0), self._port)
+        return read.wants_routing_dump if self.family == neli.NETLINK_ROUTE else read.wants_dump
 
     def _send(self, msg_type, msg_flags, body):
         sent, out = _Sent(), ctypes.create_string_buffer(len(body) + 32)
