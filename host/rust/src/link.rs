@@ -113,7 +113,8 @@ pub trait Link: fmt::Debug + Send + Sync {
         None
     }
 
-    /// The family of netlink that it leads to.
+    /// The family of netlink that it leads to, by which a router knows which requests begin a dump: routing reads the
+    /// flags otherwise than other families.
     fn family(&self) -> NlFamily {
         NlFamily::Route
     }
