@@ -35,8 +35,8 @@ void ledger_free(struct ledger *ledger);
 /* Makes room for so many more requests, or returns NELI_MEMORY. */
 int32_t ledger_reserve(struct ledger *ledger, size_t count);
 
-/* Whether the kernel answers a request of this type with these flags by a dump. Routing reads them otherwise than other
- * families. */
+/* Whether the kernel answers a request of this type with these flags by a dump: in routing a get with either bit of
+ * NLM_F_DUMP, else any with both. */
 bool ledger_is_dump(const struct ledger *ledger, uint16_t type, uint16_t flags);
 
 /* Notes a sent request, for which there is room. */

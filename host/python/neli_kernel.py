@@ -218,7 +218,7 @@ class SimulatedSocket(neli._Socket):
         return [self.request(*it) for it in requests]
 
     def _is_dump(self, msg_type, msg_flags):
-        """Whether a kernel answers it by a dump: routing reads the flags otherwise than other families."""
+        """Whether a kernel answers it by a dump: in routing a get with either bit of DUMP, else any with both."""
         (read,) = requests(struct.pack("=IHHII", 16, msg_type, msg_flags | neli.NLM_F_REQUEST, 0, 0), self._port)
         return read.wants_routing_dump if self.family == neli.NETLINK_ROUTE else read.wants_dump
 

@@ -113,8 +113,8 @@ pub trait Link: fmt::Debug + Send + Sync {
         None
     }
 
-    /// The family of netlink that it leads to, by which a router knows which requests begin a dump: routing reads the
-    /// flags otherwise than other families.
+    /// The family of netlink that it leads to, by which a router knows which requests begin a dump: in routing a
+    /// get with either bit of DUMP, else any with both.
     fn family(&self) -> NlFamily {
         NlFamily::Route
     }

@@ -11,8 +11,8 @@ use std::collections::HashMap;
 const ERROR: u16 = 2;
 const DONE: u16 = 3;
 
-/// Whether the kernel answers a request of this type with these flags by a dump. Routing reads them otherwise than
-/// other families.
+/// Whether the kernel answers a request of this type with these flags by a dump: in routing a get with either bit of
+/// DUMP, else any with both.
 pub(super) fn is_dump(family: NlFamily, kind: u16, flags: NlmF) -> bool {
     let mut header = [0; 16];
     header[..4].copy_from_slice(&16u32.to_ne_bytes());
