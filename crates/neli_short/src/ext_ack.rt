@@ -1,8 +1,7 @@
 //! What an extended acknowledgement says, by words: `NLMSGERR_ATTR_*` of `linux/netlink.h`.
 
-ghost use Rattle.std.specs.Prelude.{◌≡◌, find, nat_eq};
+ghost use Rattle.std.specs.Prelude.{◌≡◌};
 ghost use Rattle.std.specs.Option.{option_and_then, option_copied, option_map};
-ghost use Rattle.neli_consts.specs.NlmsgerrAttr.{nlmsgerr_attr_number};
 ghost use Rattle.neli_consts.specs.declared.nlmsg.NlmsgerrAttr.TheVariants as kind;
 ghost use Rattle.neli_reader.specs.Explained.{place_in, words_in};
 ghost use Rattle.neli_reader.specs.Answers.{Attributes};
@@ -10,7 +9,7 @@ ghost use Rattle.neli_short.specs.ExtAcks.{from_start, miss_nest, miss_type, pay
 
 use crate::found::text_of;
 use byteorder::{ByteOrder, LittleEndian};
-use neli_attr::{Buffer, GenlBuffer, Nlattr};
+use neli_attr::{Buffer, GenlBuffer};
 use neli_consts::NlmsgerrAttr;
 use neli_consts_linux::{NLMSGERR_ATTR_MISS_NEST, NLMSGERR_ATTR_MISS_TYPE, NlPolicyTypeAttr};
 use neli_lent::LentNlattrs;
@@ -80,28 +79,14 @@ impl ExtAck for GenlBuffer<NlmsgerrAttr, Buffer> {
     }
 }
 
-/// The first attribute with this number.
-fn first_of(
-    attrs: &[Nlattr<NlmsgerrAttr, Buffer>],
-    number: u16,
-) -> Option<&Nlattr<NlmsgerrAttr, Buffer>>
-    ensures { option_copied result
-        ≡ find (λ a. nat_eq (nlmsgerr_attr_number a.nla_type.nla_type) number) attrs.now }
-{
-    attrs
-        .iter()
-        .find(|attr| u16::from(attr.nla_type().nla_type()) == number)
-}
-
 /// The payload of the first attribute of this kind.
 fn payload_of(attrs: &GenlBuffer<NlmsgerrAttr, Buffer>, kind: NlmsgerrAttr) -> Option<&[u8]>
     ensures { option_copied result ≡ payload_in kind attrs.now }
 {
-    Some(
-        first_of(attrs.as_ref(), u16::from(kind))?
-            .nla_payload()
-            .as_ref(),
-    )
+    let number = u16::from(kind);
+    let mut attrs = attrs.as_ref().iter();
+    let found = attrs.find(|attr| u16::from(attr.nla_type().nla_type()) == number)?;
+    Some(found.nla_payload().as_ref())
 }
 
 /// The text of a payload, where it has one.

@@ -149,12 +149,12 @@ impl<D: Deliveries> Client for NlRouter<D> {
         ensures next_seq { OnOk result (self.new.next_seq ≡ number_after self.old.next_seq) }
         ensures opened { OnOk result (Opens self.old.next_seq
             (D.pending self.old.deliveries) (D.pending self.new.deliveries)) }
-        ensures unchanged { OnErr result ((self.new.next_seq ≡ self.old.next_seq)
-            × (SameLists (D.pending self.old.deliveries) (D.pending self.new.deliveries))) }
         ensures heard { OnOk result
             ((heard_of self.new.heard (Some self.old.next_seq) ≡ Some begun)
             × SameListsBut (Some self.old.next_seq)
             (heard_of self.old.heard) (heard_of self.new.heard)) }
+        ensures unchanged { OnErr result ((self.new.next_seq ≡ self.old.next_seq)
+            × (SameLists (D.pending self.old.deliveries) (D.pending self.new.deliveries))) }
         ensures unheard { OnErr result
             (SameLists (heard_of self.old.heard) (heard_of self.new.heard)) }
         ensures given_up { self.new.given_up ≡ self.old.given_up }
