@@ -12,12 +12,12 @@ use Rattle.neli_wire.specs.laws.Reading.{guard_ok, ok_is}
 use Rattle.neli_attr.specs.Attributes.{Head}
 use Rattle.neli_reader.specs.Headers.{Header, header_in}
 use Rattle.neli_wire.specs.Frames.{number_in}
-use Rattle.neli_c.specs.declared.lent.NeliWalk.{NeliWalk}
-use Rattle.neli_c.specs.declared.lent.NeliMessage.{NeliMessage}
-use Rattle.neli_c.specs.declared.lent.NeliAttribute.{NeliAttribute}
-use Rattle.neli_c.specs.Walks.{GivesAttribute, GivesMessage, IsInParts, attribute_layout, bytes_from}
-use Rattle.neli_c.specs.Walks.{head_view}
-use Rattle.neli_c.specs.Walks.{header_view, message_layout}
+use Rattle.neli_c_parts.specs.declared.message.NeliWalk.{NeliWalk}
+use Rattle.neli_c_parts.specs.declared.message.NeliMessage.{NeliMessage}
+use Rattle.neli_c_parts.specs.declared.message.NeliAttribute.{NeliAttribute}
+use Rattle.neli_c_parts.specs.Walks.{GivesAttribute, GivesMessage, IsInParts, attribute_layout, bytes_from}
+use Rattle.neli_c_parts.specs.Walks.{head_view}
+use Rattle.neli_c_parts.specs.Walks.{header_view, message_layout}
 
 align-le : (n : ℕ) → n ≤ align n
 align-le n = omega arith

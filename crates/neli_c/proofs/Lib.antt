@@ -1,15 +1,4 @@
-pub mod Aheads
-pub mod DumpPlaces
-pub mod Explained
 pub mod Frames
-pub mod FreePlaces
-pub mod Hears
-pub mod Lends
 pub mod LentCodes
-pub mod Listens
 pub mod Opened
 pub mod OutOfPlace
-pub mod Replies
-pub mod Requests
-pub mod SessionPlaces
-pub mod Steps

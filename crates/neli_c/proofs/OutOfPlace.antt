@@ -1,8 +1,8 @@
 -- A walk that is not within the bytes returns nothing.
 use Rattle.std.proofs.Common.{◌≡◌, ◌∙◌, ℕ, ℤ, List, None, ap, sym}
-use Rattle.neli_c.specs.declared.lent.NeliWalk.{NeliWalk}
-use Rattle.neli_c.specs.Codes.{item, place}
-use Rattle.neli_c.specs.Walks.{attribute_layout, bytes_left, walk_code}
+use Rattle.neli_c_parts.specs.declared.message.NeliWalk.{NeliWalk}
+use Rattle.neli_c_parts.specs.Codes.{item, place}
+use Rattle.neli_c_parts.specs.Walks.{attribute_layout, bytes_left, walk_code}
 
 -- a step at its start is refused for its place
 pub out-of-place : (bytes : List ℕ) (w v : NeliWalk) (code : ℤ) → bytes_left bytes w ≡ None → v ≡ w

@@ -1,11 +1,11 @@
 -- Lists of attributes: their places in the bytes of a message or of an attribute, and look-up in them.
 use Rattle.std.specs.Prelude.{◌≡◌, ◌≢◌, ℕ, ◌+◌, ◌^◌, ℤ, Bool, min, nat_lt, if◌then◌else◌, List}
 use Rattle.neli_wire.specs.Sizes.{align}
-use Rattle.neli_c.specs.declared.lent.NeliWalk.{NeliWalk}
-use Rattle.neli_c.specs.declared.lent.NeliMessage.{NeliMessage}
-use Rattle.neli_c.specs.declared.lent.NeliAttribute.{NeliAttribute}
-use Rattle.neli_c.specs.Codes.{ok, place, short}
-use Rattle.neli_c.specs.Walks.{GivesAttribute, attribute_layout, bytes_left, walk_code}
+use Rattle.neli_c_parts.specs.declared.message.NeliWalk.{NeliWalk}
+use Rattle.neli_c_parts.specs.declared.message.NeliMessage.{NeliMessage}
+use Rattle.neli_c_parts.specs.declared.message.NeliAttribute.{NeliAttribute}
+use Rattle.neli_c_parts.specs.Codes.{ok, place, short}
+use Rattle.neli_c_parts.specs.Walks.{GivesAttribute, attribute_layout, bytes_left, walk_code}
 
 -- a payload of so many bytes at this place fits memory
 abbrev pub fits : ℕ → ℕ → Bool

@@ -1,6 +1,6 @@
 -- What a call does to what C holds, which is open or closed: a dump, or tables.
 use Rattle.std.specs.Prelude.{◌≡◌, ℤ, Option, None, IfSome, IsSome}
-use Rattle.neli_c.specs.Codes.{state}
+use Rattle.neli_c_parts.specs.Codes.{state}
 
 -- a closed one stays so, and the code says it
 abbrev pub StaysClosed : {S : Type 0} → ℤ → Option S → Option S → Type 0

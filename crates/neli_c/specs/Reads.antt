@@ -1,7 +1,7 @@
 -- Reads of a caller's bytes.
 use Rattle.std.specs.Prelude.{◌≡◌, ◌≢◌, ℕ, ◌+◌, ◌<◌, ℤ, nat_le, if◌then◌else◌, All, List, length}
 use Rattle.std.specs.Prelude.{slice_index, take}
-use Rattle.neli_c.specs.Codes.{ok, short}
+use Rattle.neli_c_parts.specs.Codes.{ok, short}
 
 -- of a number of n bytes at a place in so many bytes
 abbrev pub number_code : ℕ → ℕ → ℕ → ℤ

@@ -4,16 +4,16 @@
 //! Each call but those that open and free it returns `STATE` if the dump is closed, and changes nothing then.
 
 ghost use Rattle.std.specs.Prelude.{◌≡◌, ◌≢◌, ◌⊎◌, IfSome, IsSome, None};
-ghost use Rattle.neli_c.specs.Asked.{reply_wire};
-ghost use Rattle.neli_c.specs.Codes.{memory, ok, state};
+ghost use Rattle.neli_c_parts.specs.Asked.{reply_wire};
+ghost use Rattle.neli_c_parts.specs.Codes.{memory, ok, state};
 ghost use Rattle.neli_c.specs.Opens.{StaysClosed, StaysOpen};
-ghost use Rattle.neli_c.specs.DumpsHeld.{BeginsDatagram, Finishes, HandsOut, IsNewDump, PutsMessage};
-ghost use Rattle.neli_c.specs.DumpsHeld.{dump_wire, end_wire};
+ghost use Rattle.neli_c_parts.specs.DumpsHeld.{BeginsDatagram, Finishes, HandsOut, IsNewDump, PutsMessage};
+ghost use Rattle.neli_c_parts.specs.DumpsHeld.{dump_wire, end_wire};
 
-use crate::code::{MEMORY, OK, STATE};
-use crate::dump_opaque::NeliKernelDump;
-use crate::dumping::Dumping;
-use crate::kernel::{NeliRequest, asked_by};
+use neli_c_parts::asking::{NeliRequest, asked_by};
+use neli_c_parts::code::{MEMORY, OK, STATE};
+use neli_c_parts::dump_opaque::NeliKernelDump;
+use neli_c_parts::dumping::Dumping;
 use std::alloc::Global;
 
 /// Opens a dump that answers a request, whose datagrams have at most `limit` bytes.

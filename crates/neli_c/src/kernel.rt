@@ -2,113 +2,25 @@
 //!
 //! What is made here takes memory, and leaves none behind.
 
-ghost use Rattle.std.specs.Prelude.{◌≡◌, ◌≢◌, [], IfErr, IfOk, Ok};
-ghost use Rattle.neli_c.specs.AnswersShown.{payload_view};
-ghost use Rattle.neli_c.specs.Asked.{Answers, AnswersWhole, IsAsked, SaysWants, WritesAnswer};
-ghost use Rattle.neli_c.specs.Asked.{acknowledgement_wire};
-ghost use Rattle.neli_c.specs.Asked.{byte_of, capped_wire, error_wire, notification_wire, reply_wire};
-ghost use Rattle.neli_c.specs.Asked.{ser_code};
-ghost use Rattle.neli_c.specs.Codes.{item, ok};
-ghost use Rattle.neli_c.specs.Writes.{WritesMessage};
-ghost use Rattle.neli_c.specs.Walks.{GivesMessage, bytes_left, header_view, message_layout, walk_code};
+ghost use Rattle.std.specs.Prelude.{◌≡◌, ◌≢◌, []};
+ghost use Rattle.neli_c_parts.specs.AnswersShown.{payload_view};
+ghost use Rattle.neli_c_parts.specs.Asked.{Answers, AnswersWhole, IsAsked, SaysWants, WritesAnswer};
+ghost use Rattle.neli_c_parts.specs.Asked.{acknowledgement_wire};
+ghost use Rattle.neli_c_parts.specs.Asked.{capped_wire, error_wire, notification_wire, reply_wire};
+ghost use Rattle.neli_c_parts.specs.Codes.{item};
+ghost use Rattle.neli_c_parts.specs.Walks.{GivesMessage, bytes_left, message_layout, walk_code};
 ghost use Rattle.neli_kernel.specs.declared.request.Request.{Request as Asked};
 
-use crate::answer::payload_of;
-use crate::code::{ITEM, LENGTH, MEMORY, PLACE};
-use crate::lent::{NeliMessage, NeliWalk, code_of, neli_c_next_message};
-use crate::write::copy;
+use crate::lent::neli_c_next_message;
 use neli_attr::Buffer;
+use neli_c_parts::asking::{NeliRequest, asked_by, give, request_of};
+use neli_c_parts::bytes::payload_of;
+use neli_c_parts::code::{ITEM, MEMORY, PLACE};
+use neli_c_parts::message::{NeliWalk, code_of};
 use neli_consts::NlmF;
-use neli_kernel::{Request, notification, read_ext_ack};
-use neli_reader::{NlmsghdrAck, NlmsghdrAckBuilder};
-use neli_wire::{Constant, SerError};
+use neli_kernel::{notification, read_ext_ack};
+use neli_wire::Constant;
 use std::alloc::Global;
-
-/// A request: the message, the port of the socket that sent it, and what its header asks for, each 1 or 0.
-#[repr(C)]
-#[derive(Clone, Copy)]
-pub struct NeliRequest {
-    pub message: NeliMessage,
-    pub port: u32,
-    pub is_handled: u8,
-    pub wants_acknowledgement: u8,
-    pub wants_dump: u8,
-    pub wants_routing_dump: u8,
-    pub wants_echo: u8,
-}
-
-/// The header that a message shows.
-fn header_of(message: &NeliMessage) -> NlmsghdrAck<u16>
-    ensures { result ≡ header_view message.now }
-{
-    let built = NlmsghdrAckBuilder::default()
-        .nl_len(message.length)
-        .nl_type(message.message_type)
-        .nl_flags(NlmF::from_wire(message.flags))
-        .nl_seq(message.number)
-        .nl_pid(message.port)
-        .build();
-    match built {
-        Ok(header) => header,
-        Err(_) => unreachable!(),
-    }
-}
-
-/// The request of this header and this payload.
-pub(crate) fn asked_by<'b>(request: &NeliRequest, payload: &'b [u8]) -> Request<'b>
-    ensures { IsAsked request.now payload.now result }
-{
-    Request::from_parts(request.port, header_of(&request.message), payload)
-}
-
-/// 1 if it holds, else 0.
-fn byte_of(holds: bool) -> u8
-    ensures { result ≡ byte_of holds }
-{
-    if holds { 1 } else { 0 }
-}
-
-/// What a message asks for that came from the socket of this port.
-fn request_of(message: NeliMessage, port: u32) -> NeliRequest
-    ensures message { result.message ≡ message }
-    ensures port { result.port ≡ port }
-    ensures wants { SaysWants result }
-{
-    let asked = Request::from_parts(port, header_of(&message), &[]);
-    NeliRequest {
-        message,
-        port,
-        is_handled: byte_of(asked.is_handled()),
-        wants_acknowledgement: byte_of(asked.wants_acknowledgement()),
-        wants_dump: byte_of(asked.wants_dump()),
-        wants_routing_dump: byte_of(asked.wants_routing_dump()),
-        wants_echo: byte_of(asked.wants_echo()),
-    }
-}
-
-/// The code of why a message has no bytes.
-pub(crate) fn of_ser(error: &SerError) -> i32
-    ensures code { result ≡ ser_code error.now }
-    ensures refused { result ≢ ok }
-{
-    match error {
-        SerError::Memory => MEMORY,
-        _ => LENGTH,
-    }
-}
-
-/// Copies the bytes of a message if there is room for all; or the code of why it has none.
-fn give(made: Result<Vec<u8>, SerError>, out: &mut [u8], size: &mut usize) -> i32
-    ensures bytes { IfOk made
-        (λ bytes. WritesMessage result (Ok bytes.items) out.old out.new size.new) }
-    ensures refused { IfErr made (λ e. (result ≡ ser_code e) × (size.new ≡ size.old)) }
-    ensures unwritten { result ≢ ok → out.new ≡ out.old }
-{
-    match made {
-        Ok(bytes) => copy(&bytes, out, size),
-        Err(error) => of_ser(&error),
-    }
-}
 
 /// The next message of a walk as a request from the socket of this port; the walk goes past it and its padding.
 ///

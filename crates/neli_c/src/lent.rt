@@ -1,48 +1,15 @@
 //! Walks over messages and attributes in the caller's bytes. They take no memory.
 
 ghost use Rattle.std.specs.Prelude.{◌≡◌, ◌≢◌, ◌≤◌, ◌-◌, IfSome, IsNone, Some, None, length};
-ghost use Rattle.neli_c.specs.Codes.{item, ok};
-ghost use Rattle.neli_c.specs.Walks.{GivesAttribute, GivesMessage, IsInParts, attribute_layout};
-ghost use Rattle.neli_c.specs.Walks.{bytes_from, bytes_left};
-ghost use Rattle.neli_c.specs.Walks.{header_view, message_layout, refusal_code, walk_code};
+ghost use Rattle.neli_c_parts.specs.Codes.{item};
+ghost use Rattle.neli_c_parts.specs.Walks.{GivesAttribute, GivesMessage, IsInParts, attribute_layout};
+ghost use Rattle.neli_c_parts.specs.Walks.{bytes_from, bytes_left};
+ghost use Rattle.neli_c_parts.specs.Walks.{message_layout, walk_code};
 
-use crate::code::{BYTES, ITEM, LENGTH, MEMORY, OK, PLACE, SHORT};
+use neli_c_parts::code::{ITEM, OK, PLACE};
+use neli_c_parts::message::{NeliAttribute, NeliMessage, NeliWalk, code_of, message_at};
 use neli_lent::{LentAttr, LentMessage};
-use neli_wire::{Cursor, DeError, alignto};
-use std::io::ErrorKind;
-
-/// The rest of a walk: the bytes from a place to an end.
-#[repr(C)]
-#[derive(Clone, Copy)]
-pub struct NeliWalk {
-    pub place: usize,
-    pub end: usize,
-}
-
-/// A message: its header, and the place of its payload.
-#[repr(C)]
-#[derive(Clone, Copy)]
-pub struct NeliMessage {
-    pub length: u32,
-    pub message_type: u16,
-    pub flags: u16,
-    pub number: u32,
-    pub port: u32,
-    pub payload: usize,
-    pub payload_length: usize,
-}
-
-/// An attribute: its header, and the place of its payload. The type field is a number of 14 bits and two flags.
-#[repr(C)]
-#[derive(Clone, Copy)]
-pub struct NeliAttribute {
-    pub length: u16,
-    pub field: u16,
-    pub number: u16,
-    pub flags: u16,
-    pub payload: usize,
-    pub payload_length: usize,
-}
+use neli_wire::{Cursor, alignto};
 
 /// The remaining bytes of a walk, if its places are in order and within the bytes.
 fn left<'b>(bytes: &'b [u8], walk: NeliWalk) -> Option<&'b [u8]>
@@ -55,23 +22,6 @@ fn left<'b>(bytes: &'b [u8], walk: NeliWalk) -> Option<&'b [u8]>
         return None;
     }
     Some(&bytes[walk.place..walk.end])
-}
-
-/// The fields of a message whose payload lies at this place.
-pub(crate) fn message_at(lent: &LentMessage<'_, u16>, payload: usize) -> NeliMessage
-    ensures header { header_view result ≡ lent.now.header }
-    ensures payload { result.payload ≡ payload }
-    ensures payload_length { result.payload_length ≡ length lent.now.payload.now }
-{
-    NeliMessage {
-        length: *lent.nl_len(),
-        message_type: *lent.nl_type(),
-        flags: u16::from(*lent.nl_flags()),
-        number: *lent.nl_seq(),
-        port: *lent.nl_pid(),
-        payload,
-        payload_length: lent.nl_payload().len(),
-    }
 }
 
 /// The fields of an attribute whose payload lies at this place.
@@ -90,19 +40,6 @@ fn attribute_at(lent: &LentAttr<'_, u16>, payload: usize) -> NeliAttribute
         flags: field & 0xc000,
         payload,
         payload_length: lent.attr_payload().len(),
-    }
-}
-
-/// The code for refused bytes.
-pub(crate) fn code_of(error: &DeError) -> i32
-    ensures code { result ≡ refusal_code error.now }
-    ensures refused { result ≢ ok }
-{
-    match error {
-        DeError::Io(ErrorKind::UnexpectedEof) => SHORT,
-        DeError::InvalidInput(_) => LENGTH,
-        DeError::Memory => MEMORY,
-        _ => BYTES,
     }
 }
 

@@ -1,12 +1,13 @@
 //! Lists of attributes in the caller's bytes: their places, and look-up by number. They take no memory.
 
 ghost use Rattle.std.specs.Prelude.{◌≡◌, ◌≢◌, None};
-ghost use Rattle.neli_c.specs.Codes.{item, ok, place};
+ghost use Rattle.neli_c_parts.specs.Codes.{item, ok, place};
 ghost use Rattle.neli_c.specs.Lists.{FindsNone, IsFound, attributes_code, list_code, walk_after, walk_over};
-ghost use Rattle.neli_c.specs.Walks.{bytes_left};
+ghost use Rattle.neli_c_parts.specs.Walks.{bytes_left};
 
-use crate::code::{ITEM, OK, PLACE, SHORT};
-use crate::lent::{NeliAttribute, NeliMessage, NeliWalk, neli_c_next_attribute};
+use crate::lent::neli_c_next_attribute;
+use neli_c_parts::code::{ITEM, OK, PLACE, SHORT};
+use neli_c_parts::message::{NeliAttribute, NeliMessage, NeliWalk};
 use neli_wire::alignto;
 use std::cmp::min;
 

@@ -7,15 +7,15 @@
 //! `LENGTH`. The tables are unchanged.
 
 ghost use Rattle.std.specs.Prelude.{◌≡◌, ◌≢◌, IfSome, None};
-ghost use Rattle.neli_c.specs.AnswersShown.{payload_view};
-ghost use Rattle.neli_c.specs.Codes.{item, ok, room, state, violation};
-ghost use Rattle.neli_c.specs.Named.{Checks, Explains, FindsPath, GivesItems};
+ghost use Rattle.neli_c_parts.specs.AnswersShown.{payload_view};
+ghost use Rattle.neli_c_parts.specs.Codes.{item, ok, room, state, violation};
+ghost use Rattle.neli_c_parts.specs.Named.{Checks, Explains, FindsPath, GivesItems};
 
-use crate::code::STATE;
-use crate::lent::NeliMessage;
-use crate::naming::{check_message, message_items, path_at, refusal_text};
-use neli_c_tables::named::NeliNamed;
-use neli_c_tables::opaque::NeliTables;
+use neli_c_parts::code::STATE;
+use neli_c_parts::message::NeliMessage;
+use neli_c_parts::named::NeliNamed;
+use neli_c_parts::naming::{check_message, message_items, path_at, refusal_text};
+use neli_c_parts::tables_opaque::NeliTables;
 use std::alloc::Global;
 
 /// Stores the items of a message's attributes, those in nests behind their nest, and writes of each

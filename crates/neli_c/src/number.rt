@@ -3,11 +3,11 @@
 ghost use Rattle.std.specs.Prelude.{◌≡◌, ◌≢◌, ◌≤◌, ◌+◌, All, IfSome, IsNone, drop, length};
 ghost use Rattle.byteorder.specs.Endian.{big_number};
 ghost use Rattle.neli_wire.specs.Frames.{number_in};
-ghost use Rattle.neli_c.specs.Codes.{ok, text};
+ghost use Rattle.neli_c_parts.specs.Codes.{ok, text};
 ghost use Rattle.neli_c.specs.Reads.{BeginsWithText, number_code};
 
-use crate::code::{OK, SHORT, TEXT};
 use byteorder::{BigEndian, ByteOrder, LittleEndian};
+use neli_c_parts::code::{OK, SHORT, TEXT};
 
 /// The bytes from a place on, if there are so many.
 fn at(bytes: &[u8], place: usize, size: usize) -> Option<&[u8]>

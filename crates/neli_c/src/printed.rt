@@ -6,14 +6,14 @@
 
 ghost use Rattle.std.specs.Prelude.{◌≡◌, IfSome, None, false};
 ghost use Rattle.neli_print.specs.Messages.{datagram_json, datagram_text, message_json, message_text};
-ghost use Rattle.neli_c.specs.AnswersShown.{payload_view};
-ghost use Rattle.neli_c.specs.Codes.{state};
-ghost use Rattle.neli_c.specs.Printed.{IsPrinted, PrintsMessage, header_of};
+ghost use Rattle.neli_c_parts.specs.AnswersShown.{payload_view};
+ghost use Rattle.neli_c_parts.specs.Codes.{state};
+ghost use Rattle.neli_c_parts.specs.Printed.{IsPrinted, PrintsMessage, header_of};
 
-use crate::code::STATE;
-use crate::lent::NeliMessage;
-use crate::printing::{datagram_json, datagram_text, message_json, message_text};
-use neli_c_tables::opaque::NeliTables;
+use neli_c_parts::code::STATE;
+use neli_c_parts::message::NeliMessage;
+use neli_c_parts::printing::{datagram_json, datagram_text, message_json, message_text};
+use neli_c_parts::tables_opaque::NeliTables;
 use std::alloc::Global;
 
 /// A message of this protocol as lines of text, each with a line feed. `PLACE` if its payload is past the bytes; then

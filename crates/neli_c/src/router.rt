@@ -3,22 +3,22 @@
 //! Each call but those that open and free it returns `STATE` if the router is closed, and changes nothing then.
 
 ghost use Rattle.std.specs.Prelude.{◌≡◌, ◌≢◌, ◌⊎◌, IfSome, IsSome, None};
-ghost use Rattle.neli_c.specs.Codes.{memory, ok, state};
-ghost use Rattle.neli_c.specs.Sessions.{ClosesHandle, IsNew, ReadsPlace, RefusesRequest, SaysNeeded};
-ghost use Rattle.neli_c.specs.Sessions.{SendsNothing};
-ghost use Rattle.neli_c.specs.Sessions.{SendsRequest, SetsNumber, TakesDatagram, TakesFault, WritesItem};
-ghost use Rattle.neli_c.specs.Verdicts.{GivesUpHandle, HearsHandle, TellsVerdict};
-ghost use Rattle.neli_c.specs.Ahead.{LendsItems, PassesItems};
-ghost use Rattle.neli_c.specs.Lending.{LendsPlace, PassesPlace};
-ghost use Rattle.neli_c.specs.Places.{IsLeft};
+ghost use Rattle.neli_c_parts.specs.Codes.{memory, ok, state};
+ghost use Rattle.neli_c_parts.specs.Sessions.{ClosesHandle, IsNew, ReadsPlace, RefusesRequest, SaysNeeded};
+ghost use Rattle.neli_c_parts.specs.Sessions.{SendsNothing};
+ghost use Rattle.neli_c_parts.specs.Sessions.{SendsRequest, SetsNumber, TakesDatagram, TakesFault, WritesItem};
+ghost use Rattle.neli_c_parts.specs.Verdicts.{GivesUpHandle, HearsHandle, TellsVerdict};
+ghost use Rattle.neli_c_parts.specs.Ahead.{LendsItems, PassesItems};
+ghost use Rattle.neli_c_parts.specs.Lending.{LendsPlace, PassesPlace};
+ghost use Rattle.neli_c_parts.specs.Places.{IsLeft};
 ghost use Rattle.std.specs.Borrow.{sem};
-ghost use Rattle.neli_c.specs.Listens.{Listens, Misses, MissesSame};
-ghost use Rattle.neli_c.specs.Slots.{handle_at};
+ghost use Rattle.neli_c_parts.specs.Listens.{Listens, Misses, MissesSame};
+ghost use Rattle.neli_c_parts.specs.Slots.{handle_at};
 
-use crate::code::{MEMORY, OK, STATE};
-use crate::lending::NeliLent;
-use crate::opaque::NeliRouter;
-use crate::session::{NeliItem, NeliSent, NeliVerdict, Session};
+use neli_c_parts::code::{MEMORY, OK, STATE};
+use neli_c_parts::lending::NeliLent;
+use neli_c_parts::router_opaque::NeliRouter;
+use neli_c_parts::session::{NeliItem, NeliSent, NeliVerdict, Session};
 use std::alloc::Global;
 
 /// Opens a router for the port of the caller's socket.

@@ -1,22 +1,21 @@
 //! Walks that store several messages or attributes in one call. They take no memory.
 
 ghost use Rattle.std.specs.Prelude.{◌≡◌, ◌≢◌, ◌≤◌, ◌⊎◌, ◌<◌, ℕ, ℤ, List, drop, length, take};
-ghost use Rattle.neli_c.specs.Codes.{item};
-ghost use Rattle.neli_c.specs.Several.{AttributeStep, GivesEach, MessageStep, StepOf, attribute_code};
-ghost use Rattle.neli_c.specs.Several.{message_code};
-ghost use Rattle.neli_c.specs.Several.{several_code};
-ghost use Rattle.neli_c.specs.Walks.{GivesAttribute, GivesMessage, attribute_layout, bytes_left};
-ghost use Rattle.neli_c.specs.Walks.{message_layout};
-ghost use Rattle.neli_c.specs.Walks.{walk_code};
+ghost use Rattle.neli_c_parts.specs.Codes.{item};
+ghost use Rattle.neli_c_parts.specs.Several.{AttributeStep, GivesEach, MessageStep, StepOf, attribute_code};
+ghost use Rattle.neli_c_parts.specs.Several.{message_code};
+ghost use Rattle.neli_c_parts.specs.Several.{several_code};
+ghost use Rattle.neli_c_parts.specs.Walks.{GivesAttribute, GivesMessage, attribute_layout, bytes_left};
+ghost use Rattle.neli_c_parts.specs.Walks.{message_layout};
+ghost use Rattle.neli_c_parts.specs.Walks.{walk_code};
 
-use crate::code::{ITEM, ROOM};
-use crate::lent::{
-    NeliAttribute, NeliMessage, NeliWalk, neli_c_next_attribute, neli_c_next_message,
-};
+use crate::lent::{neli_c_next_attribute, neli_c_next_message};
+use neli_c_parts::code::{ITEM, ROOM};
+use neli_c_parts::message::{NeliAttribute, NeliMessage, NeliWalk};
 
 /// The results of a walk, one after the other.
 trait Walked: Sized {
-    ghost use Rattle.neli_c.specs.declared.lent.NeliWalk.{NeliWalk};
+    ghost use Rattle.neli_c_parts.specs.declared.message.NeliWalk.{NeliWalk};
 
     // The code of a single call at a walk over these bytes.
     ghost code_at: { List ℕ → NeliWalk → ℤ };

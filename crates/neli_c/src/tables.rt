@@ -3,16 +3,16 @@
 //! Each call but those that open and free them returns `STATE` if the tables are closed, and changes nothing then.
 
 ghost use Rattle.std.specs.Prelude.{◌≡◌, ◌≢◌, ◌⊎◌, IfSome, IsSome, None};
-ghost use Rattle.neli_c.specs.AnswersShown.{payload_view};
-ghost use Rattle.neli_c.specs.Codes.{bad_length, bad_table, memory, ok, state};
+ghost use Rattle.neli_c_parts.specs.AnswersShown.{payload_view};
+ghost use Rattle.neli_c_parts.specs.Codes.{bad_length, bad_table, memory, ok, state};
 ghost use Rattle.neli_c.specs.Opens.{StaysClosed, StaysOpen};
-ghost use Rattle.neli_c.specs.Tables.{AddsTable, IsBuiltIn, IsEmpty, Learns, LearnsFrom, head_of};
+ghost use Rattle.neli_c_parts.specs.Tables.{AddsTable, IsBuiltIn, IsEmpty, Learns, LearnsFrom, head_of};
 
-use crate::code::{MEMORY, OK, STATE};
-use crate::lent::NeliMessage;
-use crate::tabling::{add, learn, learn_from, of_unread};
-use neli_c_tables::families::Families;
-use neli_c_tables::opaque::NeliTables;
+use neli_c_parts::code::{MEMORY, OK, STATE};
+use neli_c_parts::families::Families;
+use neli_c_parts::message::NeliMessage;
+use neli_c_parts::tables_opaque::NeliTables;
+use neli_c_parts::tabling::{add, learn, learn_from, of_unread};
 use std::alloc::Global;
 
 /// Opens tables without any family.

@@ -2,10 +2,10 @@
 
 ghost use Rattle.std.specs.Prelude.{◌≡◌, ◌≢◌, ◌+◌, ℕ, List, drop, length, nat_le, slice_index, take};
 ghost use Rattle.std.specs.Prelude.{if◌then◌else◌};
-ghost use Rattle.neli_c.specs.Codes.{ok, room};
+ghost use Rattle.neli_c_parts.specs.Codes.{ok, room};
 ghost use Rattle.neli_c.specs.Texts.{IsTextOf};
 
-use crate::code::{OK, ROOM};
+use neli_c_parts::code::{OK, ROOM};
 
 /// The text of a code.
 fn text_of(code: i32) -> &'static str

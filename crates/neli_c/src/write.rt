@@ -8,12 +8,12 @@ ghost use Rattle.byteorder.specs.Endian.{little_bytes};
 ghost use Rattle.neli_attr.specs.Attributes.{attribute_wire};
 ghost use Rattle.neli_wire.specs.Sizes.{align};
 ghost use Rattle.neli_wire.specs.Writing.{pad_wire};
-ghost use Rattle.neli_c.specs.Codes.{ok, room};
-ghost use Rattle.neli_c.specs.Writes.{attribute_code, header_bytes, message_end_code, nest_end_code, put};
-ghost use Rattle.neli_c.specs.Writes.{put_first};
+ghost use Rattle.neli_c_parts.specs.Codes.{ok, room};
+ghost use Rattle.neli_c_parts.specs.Writes.{attribute_code, header_bytes, message_end_code, nest_end_code, put};
+ghost use Rattle.neli_c_parts.specs.Writes.{put_first};
 
-use crate::code::{LENGTH, OK, PLACE, ROOM};
 use byteorder::{ByteOrder, LittleEndian};
+use neli_c_parts::code::{LENGTH, OK, PLACE, ROOM};
 use neli_consts::{ATTRIBUTE_HEADER_SIZE, MESSAGE_HEADER_SIZE};
 use neli_wire::alignto;
 
@@ -42,21 +42,6 @@ fn write_header(out: &mut [u8], nl_type: u16, flags: u16, number: u32, port: u32
     LittleEndian::write_u16(&mut out[6..], flags);
     LittleEndian::write_u32(&mut out[8..], number);
     LittleEndian::write_u32(&mut out[12..], port);
-}
-
-/// Copies bytes where there is room for all; `size` is how many there are.
-pub(crate) fn copy(bytes: &[u8], out: &mut [u8], size: &mut usize) -> i32
-    ensures code { result ≡ (if nat_le (length bytes.now) (length out.old) then ok else room) }
-    ensures size { size.new ≡ length bytes.now }
-    ensures copied { result ≡ ok → out.new ≡ put_first bytes.now out.old }
-    ensures unchanged { result ≢ ok → out.new ≡ out.old }
-{
-    *size = bytes.len();
-    if out.len() < bytes.len() {
-        return ROOM;
-    }
-    out[..bytes.len()].copy_from_slice(bytes);
-    OK
 }
 
 /// Begins a message at the writer's end, which goes past the header. Its length is 16 until `neli_c_end_message`.

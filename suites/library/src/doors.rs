@@ -3,10 +3,10 @@
 //! A request is of type 18 (`RTM_GETLINK` of `linux/rtnetlink.h`) with `NLM_F_REQUEST | NLM_F_DUMP`; codes are those of
 //! `include/neli.h`.
 
-use neli_c::code::{HANDLE, ITEM, OK, WAITS};
-use neli_c::lending::NeliLent;
-use neli_c::lent::NeliMessage;
-use neli_c::session::{NeliItem, NeliSent, Session};
+use neli_c_parts::code::{HANDLE, ITEM, OK, WAITS};
+use neli_c_parts::lending::NeliLent;
+use neli_c_parts::message::NeliMessage;
+use neli_c_parts::session::{NeliItem, NeliSent, Session};
 use std::alloc::Global;
 use std::test::Fail;
 

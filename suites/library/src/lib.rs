@@ -4,7 +4,7 @@
 //! - [`bodies`]: the bodies of all families. [`payloads`]: attributes' payloads other than numbers and texts.
 //! - [`messages`]: messages, owned and lent. [`router`]: the router and the resolvers, over each store.
 //! - [`simulator`]: a kernel's answers. [`schema`]: messages by the tables of their families. [`programs`]: whole
-//!   programs. [`doors`]: what `neli_c` has behind its exports.
+//!   programs. [`doors`]: what the exports of `neli_c` stand on.
 #![tactic(auto)]
 
 #[cfg(test)]

@@ -1,4 +1,4 @@
-use Rattle.neli_c.specs.DumpsHeld.{BeginsDatagram}
+use Rattle.neli_c_parts.specs.DumpsHeld.{BeginsDatagram}
 use Rattle.neli_c.proofs.Opened.{carried}
 use Rattle.neli_c.proofs.dump.neli_c_kernel_dump_begin_datagram.Goals as goal
 

@@ -1,6 +1,6 @@
 use Rattle.std.proofs.Common.{ℤ, subst, w32}
 use Rattle.std.proofs.lemmas.Int.{to_z-of_z}
-use Rattle.neli_c.specs.DumpsHeld.{Finishes, end_wire}
+use Rattle.neli_c_parts.specs.DumpsHeld.{Finishes, end_wire}
 use Rattle.neli_c.proofs.Opened.{carried}
 use Rattle.neli_c.proofs.dump.neli_c_kernel_dump_finish.Goals as goal
 

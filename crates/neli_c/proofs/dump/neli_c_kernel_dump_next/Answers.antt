@@ -1,4 +1,4 @@
-use Rattle.neli_c.specs.DumpsHeld.{HandsOut}
+use Rattle.neli_c_parts.specs.DumpsHeld.{HandsOut}
 use Rattle.neli_c.proofs.Opened.{carried}
 use Rattle.neli_c.proofs.dump.neli_c_kernel_dump_next.Goals as goal
 

@@ -1,5 +1,5 @@
-use Rattle.neli_c.specs.Asked.{reply_wire}
-use Rattle.neli_c.specs.DumpsHeld.{PutsMessage}
+use Rattle.neli_c_parts.specs.Asked.{reply_wire}
+use Rattle.neli_c_parts.specs.DumpsHeld.{PutsMessage}
 use Rattle.neli_c.proofs.Opened.{carried}
 use Rattle.neli_c.proofs.dump.neli_c_kernel_dump_push_reply.Goals as goal
 

@@ -1,5 +1,5 @@
 use Rattle.std.proofs.Common.{ap, ℕ, ◌+◌}
-use Rattle.neli_c.specs.declared.lent.NeliWalk.{NeliWalk}
+use Rattle.neli_c_parts.specs.declared.message.NeliWalk.{NeliWalk}
 use Rattle.neli_c.proofs.Frames.{message-given}
 use Rattle.neli_c.proofs.lent.neli_c_next_message.Goals as goal
 

@@ -1,6 +1,6 @@
 use Rattle.std.proofs.Common.{◌≡◌, ◌-◌, None}
 use Rattle.neli_c.specs.Lists.{Passes}
-use Rattle.neli_c.specs.Walks.{bytes_left}
+use Rattle.neli_c_parts.specs.Walks.{bytes_left}
 use Rattle.neli_c.proofs.lists.neli_c_find_attribute.Given as goal
 
 -- those so far have other numbers, no result is stored yet, and a walk that is not within the bytes has not moved

@@ -1,7 +1,7 @@
 use Rattle.std.proofs.Common.{ℤ, subst, w32}
 use Rattle.std.proofs.lemmas.Int.{to_z-of_z}
-use Rattle.neli_c.specs.Listens.{Misses}
-use Rattle.neli_c.specs.Sessions.{TakesFault}
+use Rattle.neli_c_parts.specs.Listens.{Misses}
+use Rattle.neli_c_parts.specs.Sessions.{TakesFault}
 use Rattle.neli_c.proofs.Opened.{carried}
 use Rattle.neli_c.proofs.router.neli_c_router_fault.Goals as goal
 

@@ -20,8 +20,8 @@ use denote.Triple.Statement.{Contract}
 use denote.Triple.Walked.{Stays, walk_of}
 use Rattle.std.proofs.raw_atomic.Walks.{proved, leaves}
 use Rattle.core.proofs.atomic.Steps.{fm}
-use Rattle.neli_c.specs.contracts.opaque.NeliRouter as Router
-use Rattle.neli_c.specs.contracts.lending.NeliLent as Lent
+use Rattle.neli_c_parts.specs.contracts.router_opaque.NeliRouter as Router
+use Rattle.neli_c_parts.specs.contracts.lending.NeliLent as Lent
 use Rattle.neli_c.specs.contracts.router.lend as callee
 use Rattle.neli_c.specs.contracts.router.neli_c_router_lend as own
 use Rattle.neli_c.specs.contracts.router.neli_c_router_lend.Key.{name}

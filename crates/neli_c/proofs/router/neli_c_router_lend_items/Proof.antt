@@ -24,8 +24,8 @@ use lib.ListN.{length}
 use Rattle.std.specs.Prelude.{ℕ}
 use Rattle.std.proofs.raw_atomic.Walks.{proved, leaves}
 use Rattle.core.proofs.atomic.Steps.{fm}
-use Rattle.neli_c.specs.contracts.opaque.NeliRouter as Router
-use Rattle.neli_c.specs.contracts.lending.NeliLent as Lent
+use Rattle.neli_c_parts.specs.contracts.router_opaque.NeliRouter as Router
+use Rattle.neli_c_parts.specs.contracts.lending.NeliLent as Lent
 use Rattle.neli_c.specs.contracts.router.lend_items as callee
 use Rattle.neli_c.specs.contracts.router.neli_c_router_lend_items as own
 use Rattle.neli_c.specs.contracts.router.neli_c_router_lend_items.Key.{name}

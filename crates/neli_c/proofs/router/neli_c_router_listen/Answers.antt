@@ -1,4 +1,4 @@
-use Rattle.neli_c.specs.Listens.{Listens}
+use Rattle.neli_c_parts.specs.Listens.{Listens}
 use Rattle.neli_c.proofs.Opened.{carried}
 use Rattle.neli_c.proofs.router.neli_c_router_listen.Goals as goal
 

@@ -1,5 +1,5 @@
-use Rattle.neli_c.specs.Lending.{PassesPlace}
-use Rattle.neli_c.specs.Listens.{MissesSame}
+use Rattle.neli_c_parts.specs.Lending.{PassesPlace}
+use Rattle.neli_c_parts.specs.Listens.{MissesSame}
 use Rattle.neli_c.proofs.Opened.{carried, carried-along}
 use Rattle.neli_c.proofs.router.neli_c_router_pass.Goals as goal
 

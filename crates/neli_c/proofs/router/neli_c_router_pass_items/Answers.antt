@@ -1,5 +1,5 @@
-use Rattle.neli_c.specs.Ahead.{PassesItems}
-use Rattle.neli_c.specs.Listens.{MissesSame}
+use Rattle.neli_c_parts.specs.Ahead.{PassesItems}
+use Rattle.neli_c_parts.specs.Listens.{MissesSame}
 use Rattle.neli_c.proofs.Opened.{carried, carried-along}
 use Rattle.neli_c.proofs.router.neli_c_router_pass_items.Goals as goal
 

@@ -1,8 +1,8 @@
-use Rattle.neli_c.specs.Sessions.{ReadsPlace}
+use Rattle.neli_c_parts.specs.Sessions.{ReadsPlace}
 use Rattle.std.proofs.Common.{IfSome}
-use Rattle.neli_c.specs.Slots.{handle_at}
-use Rattle.neli_c.specs.Verdicts.{HearsHandle}
-use Rattle.neli_c.specs.Listens.{MissesSame}
+use Rattle.neli_c_parts.specs.Slots.{handle_at}
+use Rattle.neli_c_parts.specs.Verdicts.{HearsHandle}
+use Rattle.neli_c_parts.specs.Listens.{MissesSame}
 use Rattle.neli_c.proofs.Opened.{carried, carried-along}
 use Rattle.neli_c.proofs.router.neli_c_router_read.Goals as goal
 

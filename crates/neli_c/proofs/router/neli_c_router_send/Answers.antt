@@ -1,7 +1,7 @@
 use Rattle.std.proofs.Common.{◌≡◌, ◌≢◌}
-use Rattle.neli_c.specs.Codes.{ok}
-use Rattle.neli_c.specs.Sessions.{RefusesRequest, SaysNeeded, SendsNothing, SendsRequest}
-use Rattle.neli_c.specs.Listens.{MissesSame}
+use Rattle.neli_c_parts.specs.Codes.{ok}
+use Rattle.neli_c_parts.specs.Sessions.{RefusesRequest, SaysNeeded, SendsNothing, SendsRequest}
+use Rattle.neli_c_parts.specs.Listens.{MissesSame}
 use Rattle.neli_c.proofs.Opened.{carried, carried-along}
 use Rattle.neli_c.proofs.router.neli_c_router_send.Goals as goal
 

@@ -1,6 +1,6 @@
 use Rattle.std.proofs.Common.{rules}
-use Rattle.neli_c.specs.Several.{StepOf}
-use Rattle.neli_c.proofs.Steps.{each-stored, rest-stored, within-stored}
+use Rattle.neli_c_parts.specs.Several.{StepOf}
+use Rattle.neli_c_parts.proofs.Steps.{each-stored, rest-stored, within-stored}
 use Rattle.neli_c.proofs.several.fill.Goals as goal
 
 pub loop-given-preserved : goal.loop-given-preserved

@@ -1,5 +1,5 @@
 use Rattle.std.proofs.Common.{◌≡◌, ◌≤◌, ◌-◌, drop, length, take}
-use Rattle.neli_c.specs.Several.{GivesEach, StepOf}
+use Rattle.neli_c_parts.specs.Several.{GivesEach, StepOf}
 use Rattle.neli_c.proofs.several.fill.Given as goal
 
 -- those so far are stored one after the other, and the others are unchanged

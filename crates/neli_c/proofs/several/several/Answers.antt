@@ -1,7 +1,7 @@
 use Rattle.std.proofs.Common.{◌≡◌, ◌∙◌, arith, sym, of_z, to_z, w32}
 use Rattle.std.proofs.lemmas.Int.{to_z-of_z}
-use Rattle.neli_c.specs.Several.{StepOf}
-use Rattle.neli_c.proofs.Steps.{first-code, none-given, some-there}
+use Rattle.neli_c_parts.specs.Several.{StepOf}
+use Rattle.neli_c_parts.proofs.Steps.{first-code, none-given, some-there}
 use Rattle.neli_c.proofs.several.several.Goals as goal
 
 pub returns-then-given-gt0-clause-code : goal.returns-then-given-gt0-clause-code

@@ -1,0 +1,113 @@
+-- The verdict on an answer after a read of a session, by that of its router.
+use Rattle.std.proofs.Common.{◌≡◌, ◌≢◌, ◌⊎◌, ℕ, false, List, ◌∷◌, length, Option, Some, None, Result}
+use Rattle.std.proofs.Common.{Ok, Err, IfOk, OnErr, subst, ◌∙◌, inl, inr, option_map, refl, Bool, ◌||◌}
+use Rattle.std.proofs.Common.{ℤ, slice_set}
+use Rattle.neli_deliveries.specs.declared.delivery.Delivery.{Delivery}
+use Rattle.neli_deliveries.specs.Readings.{IsReading, Item}
+use Rattle.neli_router.specs.declared.handle.HandleState.{HandleState}
+use Rattle.neli_router.specs.declared.reply.Reply.{Reply}
+use Rattle.neli_router.specs.declared.reply.Reply.TheVariants as reply
+use Rattle.neli_router.specs.Rule.{has_number, item_of}
+use Rattle.neli_router.specs.Verdicts.{has_finished, heard_of, heard_with, verdict_by}
+use Rattle.neli_c_parts.specs.declared.session.Session.{Session}
+use Rattle.neli_router.specs.GivenUp.{Finishes, IsLeft}
+use Rattle.neli_c_parts.specs.declared.session.NeliVerdict.{NeliVerdict}
+use Rattle.neli_c_parts.specs.declared.session.Slot.TheVariants as slot
+use Rattle.neli_c_parts.specs.Codes.{memory, ok}
+use Rattle.neli_c_parts.specs.Sessions.{HasFree, pending}
+use Rattle.neli_c_parts.specs.Slots.{handle_at}
+use Rattle.neli_c_parts.specs.Verdicts.{GivesUpHandle, HearsHandle, LeavesRequest, TellsVerdict, filtered_byte}
+use Rattle.neli_c_parts.specs.Verdicts.{verdict_code, verdict_error}
+use Rattle.neli_c_parts.proofs.Replies.{of-value}
+
+module _ {E : Type 0} (h after : HandleState) (s t : Session) where
+  -- the result of next_typed for the first delivery
+  abbrev Heard : Result (Reply ℕ (List ℕ)) E → Delivery → Type 0
+  Heard r d =
+      IfOk r (λ answer. (given : Item ℕ (List ℕ)) × IsReading (λ n. n) (λ b. b) length (λ b. Ok b) d given
+      × (answer ≡ reply.Item (item_of (λ n. n) h.needs_ack (has_number h.number) h.single_given given))
+      × (heard_of t.router.heard h.number
+      ≡ option_map (heard_with (λ n. n) h.needs_ack (has_number h.number) h.single_given given)
+      (heard_of s.router.heard h.number)))
+
+  first : (r : Result (Reply ℕ (List ℕ)) E) (d : Delivery) → Heard r d
+      → OnErr r ((after ≡ h) × (t.router ≡ s.router))
+      → (t.router ≡ s.router) ⊎ ((given : Item ℕ (List ℕ)) × IsReading (λ n. n) (λ b. b) length (λ b. Ok b) d given
+      × (heard_of t.router.heard h.number
+      ≡ option_map (heard_with (λ n. n) h.needs_ack (has_number h.number) h.single_given given)
+      (heard_of s.router.heard h.number)))
+  first (Ok answer) d heard err = inr (heard.0, heard.1, heard.3)
+  first (Err e) d heard err = inl err.1
+
+  pub hears : (r : Result (Reply ℕ (List ℕ)) E)
+      → (h.ended ≡ false → (d : Delivery) (ds : List Delivery) → pending s h.number ≡ Some (d ∷ ds) → Heard r d)
+      → ((w : Option ℕ) → w ≢ h.number → heard_of t.router.heard w ≡ heard_of s.router.heard w)
+      → (t.router.given_up ≡ s.router.given_up)
+      → OnErr r ((after ≡ h) × (t.router ≡ s.router)) → HearsHandle h s t
+  hears r heard others left err = (λ e d ds p. first r d (heard e d ds p) err, others, left)
+
+-- the verdict on the handle at a place
+pub tells : (code error : ℤ) (filtered k : ℕ) (s : Session) (x : HandleState) (out : NeliVerdict)
+    → Some x ≡ handle_at k s.handles.items
+    → code ≡ verdict_code (verdict_by x.number (heard_of s.router.heard x.number))
+    → error ≡ verdict_error (verdict_by x.number (heard_of s.router.heard x.number))
+    → filtered ≡ filtered_byte (heard_of s.router.heard x.number)
+    → TellsVerdict code k s out (record { error = error; filtered = filtered })
+tells code error filtered k s x out is c e f = (
+  λ none. absurd (there is none),
+  of-value (handle_at k s.handles.items) (λ h.
+      (code ≡ verdict_code (verdict_by h.number (heard_of s.router.heard h.number)))
+      × (◌≡◌ {A = NeliVerdict} (record { error = error; filtered = filtered }) (record {
+        error = verdict_error (verdict_by h.number (heard_of s.router.heard h.number));
+        filtered = filtered_byte (heard_of s.router.heard h.number);
+      }))) x is (c, rw (e, f) refl),
+)
+  where
+    there : Some x ≡ handle_at k s.handles.items → handle_at k s.handles.items ≡ None → ⊥
+    there is none = cc
+
+-- giving a handle up, if memory does not run out
+pub given-up : (k : ℕ) (s t : Session) (x : HandleState) → Some x ≡ handle_at k s.handles.items
+    → (x.number ≡ None → pending t None ≡ None)
+    → (pending s x.number ≡ None → pending t x.number ≡ None)
+    → ((q : ℕ) (ds : List Delivery) → x.number ≡ Some q → pending s (Some q) ≡ Some ds
+    → (last : Bool) × Finishes x.needs_ack ds last
+    × IsLeft q x.needs_ack (has_finished (heard_of s.router.heard (Some q)) || last) s.router.given_up.items
+    (pending t) t.router.given_up.items)
+    → ((w : Option ℕ) → w ≢ x.number → pending t w ≡ pending s w)
+    → ((w : Option ℕ) → w ≢ x.number → heard_of t.router.heard w ≡ heard_of s.router.heard w)
+    → (t.handles.items ≡ slice_set s.handles.items k (slot.Free s.freed))
+    → (k ≢ 0 → (ks : List ℕ) → HasFree s ks → HasFree t (k ∷ ks))
+    → (k ≡ 0 → (ks : List ℕ) → HasFree s ks → HasFree t ks)
+    → (t.router.deliveries.port ≡ s.router.deliveries.port) → (t.router.next_seq ≡ s.router.next_seq)
+    → (t.held ≡ s.held) → GivesUpHandle ok k s t
+given-up k s t x is multicast closed leaves others heard slots first again port next held = (
+  λ none. absurd (there is none),
+  λ h at. subst (λ (y : HandleState). LeavesRequest ok y s t
+      × ((w : Option ℕ) → w ≢ y.number → pending t w ≡ pending s w)
+      × ((w : Option ℕ) → w ≢ y.number → heard_of t.router.heard w ≡ heard_of s.router.heard w)
+      × (t.handles.items ≡ slice_set s.handles.items k (slot.Free s.freed))
+      × (k ≢ 0 → (ks : List ℕ) → HasFree s ks → HasFree t (k ∷ ks))
+      × (k ≡ 0 → (ks : List ℕ) → HasFree s ks → HasFree t ks)
+      × (t.router.deliveries.port ≡ s.router.deliveries.port) × (t.router.next_seq ≡ s.router.next_seq)
+      × (t.held ≡ s.held)) (same h is at) (
+        (inl refl, λ e. absurd (apart e), λ e. leaves, λ e. (refl, multicast e), λ e. (refl, closed e)),
+        others,
+        heard,
+        slots,
+        first,
+        again,
+        port,
+        next,
+        held,
+      ),
+)
+  where
+    there : Some x ≡ handle_at k s.handles.items → handle_at k s.handles.items ≡ None → ⊥
+    there is none = cc
+
+    same : (h : HandleState) → Some x ≡ handle_at k s.handles.items → handle_at k s.handles.items ≡ Some h → x ≡ h
+    same h is at = (let both : Some x ≡ Some h = is ∙ at in cc)
+
+    apart : ok ≡ memory → ⊥
+    apart e = cc

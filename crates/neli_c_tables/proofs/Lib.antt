@@ -1,3 +1,0 @@
-mod Items
-pub mod Parts
-mod TablesPlaces
