@@ -12,10 +12,21 @@ use std::alloc::Global;
 use std::fmt::Write;
 use std::test::Fail;
 
-/// The file of a recording, its protocol, its bytes, and what is to be printed.
+/// The file of a recording, or what the bytes are; their protocol; they themselves, and what is to be printed.
 type Row = (&'static str, u16, &'static str, &'static str);
 
-const JSON: [Row; 9] = [
+/// A link whose name for people (`IFLA_IFALIAS`) has a direction of writing, U+202E, and the control characters U+001B,
+/// U+0085 and U+007F.
+const ALIAS: &str = "3400000010000000000000000000000000000000000000000000000000000000\
+    1100140061e280ae621b5b324ac2857f00000000";
+
+/// An answer with the code -4095, past which the kernel has none (`MAX_ERRNO` of `linux/err.h`): no error has it.
+const NAMELESS: &str = "1400000002000000000000000000000001f0ffff";
+
+/// An answer with `ENOTSUPP` of the kernel's own `include/linux/errno.h`, which no header for programs has.
+const NOT_SUPPORTED: &str = "14000000020000000000000000000000f4fdffff";
+
+const JSON: [Row; 12] = [
     (
         "0308-route-dump-neigh",
         0,
@@ -120,9 +131,32 @@ const JSON: [Row; 9] = [
         \"name\":\"NLMSGERR_ATTR_OFFS\",\"value\":20},{\"number\":4,\"name\":\"NLMSGERR_ATTR_POLICY\",\"nested\":true,\
         \"attributes\":[{\"number\":1,\"name\":\"NL_POLICY_TYPE_ATTR_TYPE\",\"value\":\"nested\"}]}]}\n",
     ),
+    (
+        "no control character, but the direction of writing",
+        0,
+        ALIAS,
+        "{\"protocol\":0,\"type\":16,\"name\":\"RTM_NEWLINK\",\"length\":52,\"flags\":[],\"seq\":0,\
+        \"port\":0,\"structure\":\"ifinfomsg\",\"fields\":{\"ifi_family\":0,\"ifi_type\":\"netrom\",\
+        \"ifi_index\":0,\"ifi_flags\":[],\"ifi_change\":0},\"attributes\":[{\"number\":20,\
+        \"name\":\"IFLA_IFALIAS\",\"value\":\"a\u{202e}b\\u001b[2J\\u0085\\u007f\"}]}\n",
+    ),
+    (
+        "an error of the kernel alone",
+        0,
+        NOT_SUPPORTED,
+        "{\"protocol\":0,\"type\":2,\"name\":\"NLMSG_ERROR\",\"length\":20,\"flags\":[],\"seq\":0,\
+        \"port\":0,\"code\":-524,\"error\":\"ENOTSUPP\",\"meaning\":\"Operation is not supported\"}\n",
+    ),
+    (
+        "an error without a name",
+        0,
+        NAMELESS,
+        "{\"protocol\":0,\"type\":2,\"name\":\"NLMSG_ERROR\",\"length\":20,\"flags\":[],\"seq\":0,\
+        \"port\":0,\"code\":-4095}\n",
+    ),
 ];
 
-const TEXT: [Row; 10] = [
+const TEXT: [Row; 13] = [
     (
         "0821-generic-generic-family",
         16,
@@ -246,18 +280,27 @@ const TEXT: [Row; 10] = [
         command 3 version 1 reserved 2\n  \
         payload 0xff00ff00\n",
     ),
+    (
+        "no control character, but the direction of writing",
+        0,
+        ALIAS,
+        "RTM_NEWLINK length 52 flags 0 seq 0 port 0\n  \
+        ifinfomsg ifi_family 0 ifi_type netrom ifi_index 0 ifi_flags 0 ifi_change 0\n  \
+        IFLA_IFALIAS \"a\u{202e}b\\u001b[2J\\u0085\\u007f\"\n",
+    ),
+    (
+        "an error of the kernel alone",
+        0,
+        NOT_SUPPORTED,
+        "NLMSG_ERROR length 20 flags 0 seq 0 port 0\n  error -524 ENOTSUPP Operation is not supported\n",
+    ),
+    (
+        "an error without a name",
+        0,
+        NAMELESS,
+        "NLMSG_ERROR length 20 flags 0 seq 0 port 0\n  code -4095\n",
+    ),
 ];
-
-/// A link whose name for people (`IFLA_IFALIAS`) has a direction of writing, U+202E, and the control characters U+001B,
-/// U+0085 and U+007F.
-const ALIAS: &str = "3400000010000000000000000000000000000000000000000000000000000000\
-    1100140061e280ae621b5b324ac2857f00000000";
-
-/// An answer with the code -4095, past which the kernel has none (`MAX_ERRNO` of `linux/err.h`): no error has it.
-const NAMELESS: &str = "1400000002000000000000000000000001f0ffff";
-
-/// An answer with `ENOTSUPP` of the kernel's own `include/linux/errno.h`, which no header for programs has.
-const NOT_SUPPORTED: &str = "14000000020000000000000000000000f4fdffff";
 
 /// Asserts what datagrams are printed as by the built-in tables.
 fn assert_printed(
@@ -298,49 +341,4 @@ fn messages_are_objects(rt: HostRuntime) -> Result<(), Fail> {
 #[test]
 fn messages_are_lines(rt: HostRuntime) -> Result<(), Fail> {
     assert_printed(&rt, rt.alloc(), &TEXT, false)
-}
-
-#[test]
-fn a_terminal_gets_no_control_characters_but_directions(rt: HostRuntime) -> Result<(), Fail> {
-    let text = "RTM_NEWLINK length 52 flags 0 seq 0 port 0\n  \
-        ifinfomsg ifi_family 0 ifi_type netrom ifi_index 0 ifi_flags 0 ifi_change 0\n  \
-        IFLA_IFALIAS \"a\u{202e}b\\u001b[2J\\u0085\\u007f\"\n";
-    let json =
-        "{\"protocol\":0,\"type\":16,\"name\":\"RTM_NEWLINK\",\"length\":52,\"flags\":[],\"seq\":0,\
-        \"port\":0,\"structure\":\"ifinfomsg\",\"fields\":{\"ifi_family\":0,\"ifi_type\":\"netrom\",\
-        \"ifi_index\":0,\"ifi_flags\":[],\"ifi_change\":0},\"attributes\":[{\"number\":20,\
-        \"name\":\"IFLA_IFALIAS\",\"value\":\"a\u{202e}b\\u001b[2J\\u0085\\u007f\"}]}\n";
-    assert_printed(&rt, rt.alloc(), &[("as text", 0, ALIAS, text)], false)?;
-    assert_printed(&rt, rt.alloc(), &[("as JSON", 0, ALIAS, json)], true)
-}
-
-#[test]
-fn an_error_of_the_kernel_alone_has_its_name(rt: HostRuntime) -> Result<(), Fail> {
-    let text =
-        "NLMSG_ERROR length 20 flags 0 seq 0 port 0\n  error -524 ENOTSUPP Operation is not supported\n";
-    let json =
-        "{\"protocol\":0,\"type\":2,\"name\":\"NLMSG_ERROR\",\"length\":20,\"flags\":[],\"seq\":0,\
-        \"port\":0,\"code\":-524,\"error\":\"ENOTSUPP\",\"meaning\":\"Operation is not supported\"}\n";
-    assert_printed(
-        &rt,
-        rt.alloc(),
-        &[("as text", 0, NOT_SUPPORTED, text)],
-        false,
-    )?;
-    assert_printed(
-        &rt,
-        rt.alloc(),
-        &[("as JSON", 0, NOT_SUPPORTED, json)],
-        true,
-    )
-}
-
-#[test]
-fn an_error_without_a_name_is_its_code(rt: HostRuntime) -> Result<(), Fail> {
-    let text = "NLMSG_ERROR length 20 flags 0 seq 0 port 0\n  code -4095\n";
-    let json =
-        "{\"protocol\":0,\"type\":2,\"name\":\"NLMSG_ERROR\",\"length\":20,\"flags\":[],\"seq\":0,\
-        \"port\":0,\"code\":-4095}\n";
-    assert_printed(&rt, rt.alloc(), &[("as text", 0, NAMELESS, text)], false)?;
-    assert_printed(&rt, rt.alloc(), &[("as JSON", 0, NAMELESS, json)], true)
 }

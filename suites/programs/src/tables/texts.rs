@@ -73,14 +73,14 @@ fn whole_texts_are_read(rt: HostRuntime) -> Result<(), Fail> {
     Ok(())
 }
 
-/// So many rows, each of which nests its own set.
+/// More rows than 16 bits count, each of which nests its own set.
 #[test]
 fn many_rows_are_read(rt: HostRuntime) -> Result<(), Fail> {
     let alloc = rt.alloc();
     let mut text = String::new(alloc);
     text.push_str("family f 0\nset s\n")?;
-    for number in 0..100_000 {
+    for number in 0..70_000 {
         write!(text, "  attr A{number} {number} nest=s\n")?;
     }
-    assert_said(&rt, alloc, &text, "100002 lines")
+    assert_said(&rt, alloc, &text, "70002 lines")
 }
