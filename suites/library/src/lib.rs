@@ -4,7 +4,7 @@
 //! - [`bodies`]: the bodies of all families. [`payloads`]: attributes' payloads other than numbers and texts.
 //! - [`messages`]: messages, owned and lent. [`router`]: the router and the resolvers, over each store.
 //! - [`simulator`]: a kernel's answers. [`schema`]: messages by the tables of their families. [`programs`]: whole
-//!   programs. [`doors`]: what the exports of `neli_c` stand on.
+//!   programs. [`doors`]: what the exports of `neli_c` stand on. [`trial`]: what is changed at random.
 #![tactic(auto)]
 
 #[cfg(test)]
@@ -25,5 +25,7 @@ mod router;
 mod schema;
 #[cfg(test)]
 mod simulator;
+#[cfg(test)]
+mod trial;
 #[cfg(test)]
 mod values;

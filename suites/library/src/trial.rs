@@ -1,39 +1,44 @@
-//! `neli_trial SEED DATAGRAMS SCRIPTS TEXTS SHOWN`: takes recorded datagrams from standard input, a line of hexadecimal
-//! digits each, changes them at random so many times, and makes so many scripts of the results; changes so many texts of
-//! tables, and shows so many datagrams. It checks each against what is proved of all, and prints the differences: the
-//! only lines to expect are the last two, which count. Standard error gets what was read.
+//! Recorded datagrams changed at random, scripts of the results, texts of tables: each is checked against what is proved
+//! of all.
 //!
 //! - [`agree`]: a datagram read lent, untyped and typed is the same, and written again it is itself, with zeros for its
 //!   padding, as [`zeroed`] walks over it.
 //! - [`scripts`]: both stores of the router have the same outcomes for a script.
 //! - [`texts`]: a text of a table is read, or refused by a line that it has. [`shown`]: the messages of a datagram walk by
 //!   the tables that are built in, and print as JSON.
-//! - [`changes`]: cuts, lengths, flips, splices and other orders. [`input`]: words and lines.
+//! - [`changes`]: cuts, lengths, flips, splices and other orders. [`recorded`]: what is changed.
 //!
-//! `bench/run-trial` runs it.
-#![tactic(auto)]
+//! `bench/run-trial` tries more of each.
 
 mod agree;
 mod changes;
-mod input;
+mod recorded;
 mod scripts;
 mod shown;
 mod texts;
 mod zeroed;
 
-use crate::agree::{Counts, Trouble, check};
-use crate::changes::changed;
-use crate::input::{Wanted, datagrams, read_words};
-use crate::scripts::compare;
-use crate::shown::{Walked, all_tables, changed_message, check_shown};
-use crate::texts::{Read as Texts, built_in_texts, changed_text, check_text};
+use agree::{Counts, Trouble, check};
+use changes::changed;
 use rand::SeedableRng;
 use rand::rngs::SmallRng;
+use recorded::RECORDED;
+use scripts::compare;
+use shown::{Walked, all_tables, changed_message, check_shown};
 use std::alloc::Global;
-use std::env::Env;
-use std::io::{Read, Write};
-use std::process::ExitCode;
-use std::{env, io};
+use std::io::{self, Write};
+use std::str;
+use texts::{Read as Texts, built_in_texts, changed_text, check_text};
+
+/// A seed, and how many of each are tried: datagrams, scripts, texts, and datagrams that are shown.
+#[derive(Clone, Copy)]
+pub struct Wanted {
+    pub seed: u64,
+    pub datagrams: u64,
+    pub scripts: u64,
+    pub texts: u64,
+    pub shown: u64,
+}
 
 /// The error when memory runs out.
 fn out_of_memory() -> io::Error {
@@ -177,19 +182,25 @@ fn run_tables(
     Ok(third == 0 && fourth == 0)
 }
 
-/// Performs the request in the words of the command line, and returns whether nothing differed.
-fn run<R: Env + AllocGlobal>(
-    rt: &R,
-    stdin: &mut impl Read,
+/// The recorded datagrams.
+fn recorded_bytes(alloc: Global) -> io::Result<Vec<Vec<u8>>> {
+    let mut all = Vec::new(alloc);
+    for digits in RECORDED {
+        let bytes = hex::decode(alloc, digits).map_err(|_| out_of_memory())?;
+        all.push(bytes)?;
+    }
+    Ok(all)
+}
+
+/// Tries as many as are wanted, prints each difference and then two lines that count, and returns whether nothing
+/// differed; to `err` it prints what was read.
+pub fn run(
+    alloc: Global,
+    wanted: Wanted,
     out: &mut impl Write,
     err: &mut impl Write,
 ) -> io::Result<bool> {
-    let alloc = rt.alloc();
-    let words: Vec<String> = env::args(rt)?.skip(1).collect(alloc)?;
-    let wanted = read_words(&words)?;
-    let mut text = String::new(alloc);
-    stdin.read_to_string(&mut text)?;
-    let recorded = datagrams(alloc, &text)?;
+    let recorded = recorded_bytes(alloc)?;
     let mut counts = Counts::default();
     let first = try_datagrams(alloc, out, wanted, &recorded, &mut counts)?;
     let second = try_scripts(alloc, out, wanted, &recorded)?;
@@ -209,7 +220,21 @@ fn run<R: Env + AllocGlobal>(
     Ok(first == 0 && second == 0 && is_alike)
 }
 
-fn main(rt: HostRuntime) -> io::Result<ExitCode> {
-    let is_alike = run(&rt, &mut rt.stdin(), &mut rt.stdout(), &mut rt.stderr())?;
-    Ok(ExitCode::from(if is_alike { 0 } else { 1 }))
+#[test]
+fn what_is_changed_at_random_agrees(rt: HostRuntime) -> io::Result<()> {
+    let wanted = Wanted {
+        seed: 1,
+        datagrams: 2000,
+        scripts: 200,
+        texts: 60,
+        shown: 300,
+    };
+    let (mut out, mut err) = (Vec::new(rt.alloc()), Vec::new(rt.alloc()));
+    let is_alike = run(rt.alloc(), wanted, &mut out, &mut err)?;
+    let said = str::from_utf8(&out).expect(&rt, "text");
+    let want =
+        "seed 1: 2000 datagrams, 0 differ; 200 scripts, 0 differ\n60 texts, 0 differ; 300 shown, 0 differ\n";
+    assert_eq!(rt; said, want);
+    assert!(rt; is_alike);
+    Ok(())
 }

@@ -1,8 +1,8 @@
 //! Texts of tables that are changed at random: each is read, or refused by a line that it has; and what is read walks
 //! over datagrams.
 
-use crate::agree::{Trouble, agree};
-use crate::changes::{below, one_of};
+use super::agree::{Trouble, agree};
+use super::changes::{below, one_of};
 use neli::err::NoMemory;
 use neli_tables::{ReadError, Table, Word, options_of};
 use neli_tables_generic::GenericTable;

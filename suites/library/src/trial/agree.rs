@@ -1,6 +1,6 @@
 //! Common facts of all readings of a datagram.
 
-use crate::zeroed::clear_padding;
+use super::zeroed::clear_padding;
 use neli::connector::{CnMsg, ProcEventHeader};
 use neli::err::{DeError, NoMemory, RouterError, SerError};
 use neli::genl::Genlmsghdr;

@@ -1,6 +1,6 @@
 //! Scripts of commands that are made at random, of recorded datagrams among others, over both stores of the router.
 
-use crate::changes::{below, changed, one_of};
+use super::changes::{below, changed, one_of};
 use neli::ToBytes;
 use neli::consts::nl::NlmF;
 use neli::err::{NoMemory, RouterError, SerError, SocketError};

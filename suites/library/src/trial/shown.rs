@@ -1,7 +1,7 @@
 //! Changed datagrams as the tables read them: each message walks to its end, and prints as lines of JSON.
 
-use crate::agree::{Trouble, agree};
-use crate::changes::{below, changed};
+use super::agree::{Trouble, agree};
+use super::changes::{below, changed};
 use neli::err::NoMemory;
 use neli::lent::LentMessages;
 use neli_print::{Datagram, DatagramJson, DatagramText};
