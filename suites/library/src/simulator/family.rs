@@ -4,12 +4,14 @@
 
 use super::support::request;
 use neli::consts::nl::NlmF;
+use neli::err::RouterError;
 use neli::genl::{Genlmsghdr, GenlmsghdrBuilder};
 use neli::router::synchronous::{Log, NlRouter, NlRouterReceiverHandle};
-use neli::short::{Client, Lookup, Put};
+use neli::short::{Client, ExtAck as _, ExtAckBuilder, Lookup, Put};
 use neli::simulator::{ExtAck, Request};
 use neli::types::GenlBuffer;
 use std::alloc::Global;
+use std::process::Abort;
 use std::test::Fail;
 
 /// The family's number.
@@ -109,5 +111,26 @@ fn a_family_is_served(rt: HostRuntime) -> Result<(), Fail> {
         assert_eq!(rt; got.as_slice(), want, "at {row}");
         router.close(sent.handle);
     }
+    Ok(())
+}
+
+/// A request that the simulator refuses, with the reason, and what the client reads.
+#[test]
+fn a_refusal_is_read(rt: HostRuntime) -> Result<(), Fail> {
+    let alloc = rt.alloc();
+    let (mut router, _multicast) = NlRouter::<Log>::new(alloc, PORT);
+    let mut sent = router.request(alloc, FAMILY, NlmF::ACK, counter(alloc, None)?)?;
+    let reason = ExtAckBuilder::default()
+        .text("no such counter")
+        .offset(20)
+        .build(alloc)?;
+    let datagram = request(&rt, PORT, &sent.bytes).capped_error(alloc, -2, reason)?;
+    router.receive_for(alloc, &datagram, &[])?;
+    let Err(RouterError::Capped(answer)) = router.next(alloc, &mut sent.handle) else {
+        rt.panic("no error of the kernel")
+    };
+    assert_eq!(rt; *answer.error(), -2);
+    assert_eq!(rt; answer.text(), Some("no such counter"));
+    assert_eq!(rt; answer.offset(), Some(20));
     Ok(())
 }
