@@ -186,7 +186,9 @@ fn run_tables(
 fn recorded_bytes(alloc: Global) -> io::Result<Vec<Vec<u8>>> {
     let mut all = Vec::new(alloc);
     for digits in RECORDED {
-        let bytes = hex::decode(alloc, digits).map_err(|_| out_of_memory())?;
+        let bytes = hex::decode(alloc, digits).map_err(|_| io::Error::from(
+            io::ErrorKind::InvalidData,
+        ))?;
         all.push(bytes)?;
     }
     Ok(all)
