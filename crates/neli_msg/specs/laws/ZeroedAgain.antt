@@ -11,6 +11,7 @@ use Rattle.byteorder.specs.Endian.{little_number}
 use Rattle.neli_wire.specs.declared.errors.DeError.{DeError}
 use Rattle.neli_wire.specs.declared.errors.DeError.TheVariants.{InvalidInput}
 use Rattle.neli_wire.specs.Frames.{Layout, IsFrame, AreFrames, number_in}
+use Rattle.neli_wire.specs.Reading.{◌>>=◌}
 use Rattle.neli_wire.specs.Sizes.{align}
 use Rattle.neli_wire.specs.laws.FrameLists.{frames-list, list-frames}
 use Rattle.neli_wire.specs.laws.Frames.{number_first}
@@ -28,6 +29,7 @@ use Rattle.neli_msg.specs.declared.payload.Kind.{Kind}
 use Rattle.neli_msg.specs.declared.payload.Kind.TheVariants.{Body, Nothing, DumpEnd, Acknowledgement, Capped, Failure}
 use Rattle.neli_msg.specs.declared.answer.Tail.TheVariants.{Unread, Attributes as Listed}
 use Rattle.neli_msg.specs.declared.payload.NlPayload.{NlPayload}
+use Rattle.neli_msg.specs.declared.payload.NlPayload.TheVariants as payload
 use Rattle.neli_msg.specs.Answers.{Attributes, after, after_echo, answer, attribute_of, code_in, dump_end_in, echo_end}
 use Rattle.neli_msg.specs.Answers.{echo_with, echoed_count, echoed_in, echoed_length, ext_ack_in, failure_in, headed_in}
 use Rattle.neli_msg.specs.Headers.{Header, flags_of, header_in}
@@ -320,32 +322,23 @@ head-again s x e =
     headed_of : ℤ → Header ℕ → Attributes → Result (Nlmsgerr (Header ℕ)) DeError
     headed_of c h attrs = Ok (answer c h attrs)
 
-acknowledgement-again : (number : ℕ) (flags : NlmF) (s : List ℕ) (u : NlPayload ℕ (List ℕ))
-    → kind_of number flags s ≡ Acknowledgement Listed → payload_as same all (Acknowledgement Listed) s ≡ Ok u
-    → IsAgain number flags s (payload_zeroed (Acknowledgement Listed) s) u
-acknowledgement-again number flags s u kind e =
-    let b = bind_ok (headed_in same Listed s) _ u e in
+-- as an acknowledgement, or as a capped error
+abbrev made : (Nlmsgerr (Header ℕ) → NlPayload ℕ (List ℕ)) → Nlmsgerr (Header ℕ) → Result (NlPayload ℕ (List ℕ)) DeError
+made make x = Ok (make x)
+
+headed-again : (kind : Kind) (make : Nlmsgerr (Header ℕ) → NlPayload ℕ (List ℕ))
+    → ((t : List ℕ) → payload_as same all kind t ≡ (headed_in same Listed t >>= made make))
+    → (number : ℕ) (flags : NlmF) (s : List ℕ) (u : NlPayload ℕ (List ℕ)) → kind_of number flags s ≡ kind
+    → payload_as same all kind s ≡ Ok u → IsAgain number flags s (payload_zeroed (Acknowledgement Listed) s) u
+headed-again kind make read number flags s u is e =
+    let b = bind_ok (headed_in same Listed s) (made make) u (sym (read s) ∙ e) in
     let h = head-again s b.0 b.1 in
     let z : List ℕ = payload_zeroed (Acknowledgement Listed) s in
-    let here : payload_as same all (Acknowledgement Listed) z ≡ Ok u = rw h.reads b.2 in
-    let kinds : kind_of number flags z ≡ Acknowledgement Listed = kind-same number flags s z h.long h.code ∙ kind in
+    let here : (headed_in same Listed z >>= made make) ≡ Ok u = rw h.reads b.2 in
+    let kinds : kind_of number flags z ≡ kind = kind-same number flags s z h.long h.code ∙ is in
     record {
       long = h.long;
-      reads = ap (λ (k : Kind). payload_as same all k z) kinds ∙ here;
-    }
-
-capped-again : (number : ℕ) (flags : NlmF) (s : List ℕ) (u : NlPayload ℕ (List ℕ))
-    → kind_of number flags s ≡ Capped Listed → payload_as same all (Capped Listed) s ≡ Ok u
-    → IsAgain number flags s (payload_zeroed (Capped Listed) s) u
-capped-again number flags s u kind e =
-    let b = bind_ok (headed_in same Listed s) _ u e in
-    let h = head-again s b.0 b.1 in
-    let z : List ℕ = payload_zeroed (Capped Listed) s in
-    let here : payload_as same all (Capped Listed) z ≡ Ok u = rw h.reads b.2 in
-    let kinds : kind_of number flags z ≡ Capped Listed = kind-same number flags s z h.long h.code ∙ kind in
-    record {
-      long = h.long;
-      reads = ap (λ (k : Kind). payload_as same all k z) kinds ∙ here;
+      reads = ap (λ (k : Kind). payload_as same all k z) kinds ∙ read z ∙ here;
     }
 
 payload-again : (number : ℕ) (flags : NlmF) (s : List ℕ) (u : NlPayload ℕ (List ℕ))
@@ -358,9 +351,11 @@ payload-again number flags s u e = by (kind_of number flags s) refl e
     by Nothing is reads = plain-again Nothing number flags s u (whole-zeroed s) e
     by DumpEnd is reads = dump_end-again number flags s u is reads
     by (Acknowledgement Unread) is reads = plain-again (Acknowledgement Unread) number flags s u (whole-zeroed s) e
-    by (Acknowledgement Listed) is reads = acknowledgement-again number flags s u is reads
+    by (Acknowledgement Listed) is reads =
+        headed-again (Acknowledgement Listed) payload.Ack (λ t. refl) number flags s u is reads
     by (Capped Unread) is reads = plain-again (Capped Unread) number flags s u (whole-zeroed s) e
-    by (Capped Listed) is reads = capped-again number flags s u is reads
+    by (Capped Listed) is reads =
+        headed-again (Capped Listed) payload.Capped (λ t. refl) number flags s u is reads
     by Failure is reads = failure-again number flags s u is reads
 
 -- ---- messages
