@@ -1,3 +1,4 @@
+pub mod Headers
 pub mod Messages
 pub mod Written
 pub mod Walks

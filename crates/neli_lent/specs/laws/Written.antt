@@ -2,108 +2,44 @@
 use Rattle.std.proofs.Common.{◌≡◌, ℕ, ◌+◌, ◌-◌, List, [], ◌∷◌, ◌++◌, length, take, drop}
 use Rattle.std.proofs.Common.{None, Ok, Err, refl, sym, ap, subst, ◌∙◌, append_assoc, arith, length-append}
 use Rattle.std.proofs.lemmas.List.{append-nil, drop_at, length-replicate, take_at}
-use Rattle.byteorder.specs.Endian.{little_bytes, little_number}
-use Rattle.byteorder.specs.Numbers.{little_number-reads_back}
-use Rattle.neli_wire.specs.Frames.{IsFrame, frame_at, number_in}
+use Rattle.neli_wire.specs.Frames.{IsFrame, frame_at}
 use Rattle.neli_wire.specs.Sizes.{align, gap}
 use Rattle.neli_wire.specs.Writing.{Wire, ◌+++◌, pad_wire, zeros_for}
 use Rattle.neli_wire.specs.laws.Frames.{frame_at-frame}
 use Rattle.neli_wire.specs.laws.Lists.{both_written}
-use Rattle.neli_wire.specs.laws.Numbers.{count-unsigned}
 use Rattle.neli_reader.specs.Cuts.{Cut}
 use Rattle.neli_reader.specs.Headers.{Header, header_wire}
 use Rattle.neli_reader.specs.Framed.{Nlmsghdr}
 use Rattle.neli_reader.specs.Wires.{message_wire, payload_size, payload_wire}
 use Rattle.neli_reader.specs.laws.Cuts.{cut_of-end, cut_of-message}
-use Rattle.neli_reader.specs.laws.Headers.{header_wire-length}
+use Rattle.neli_reader.specs.laws.Headers.{fields-length, header_wire-length}
 use Rattle.neli_reader.specs.laws.Messages.{layout_with-placed}
 use Rattle.neli_reader.specs.laws.Wires.{payload_wire-length}
 use Rattle.neli_lent.specs.Messages.{Lent, lent_message, messages_in}
 use Rattle.neli_lent.specs.Written.{HeaderFits, IsWalked, header_numbered}
+use Rattle.neli_lent.specs.laws.Headers.{fields, header-read}
 
 abbrev same : ℕ → ℕ
 same n = n
 
 -- ---- the bytes of a message
 
-abbrev fields : Header ℕ → List ℕ
-fields h = little_bytes 4 h.len ++ little_bytes 2 h.message_type ++ little_bytes 2 h.flags.0
-    ++ little_bytes 4 h.sequence_number ++ little_bytes 4 h.port
-
 -- a header, a payload's bytes and zeros are a frame
 frame-written : (h : Header ℕ) (body zeros : List ℕ) → HeaderFits h → h.len ≡ 16 + length body + length zeros
     → align h.len ≡ h.len → IsFrame (lent_message same) ((fields h ++ body) ++ zeros) h (body ++ zeros)
 frame-written h body zeros fits long whole =
-    let a : List ℕ = little_bytes 4 h.len in
-    let b : List ℕ = little_bytes 2 h.message_type in
-    let c : List ℕ = little_bytes 2 h.flags.0 in
-    let d : List ℕ = little_bytes 4 h.sequence_number in
-    let e : List ℕ = little_bytes 4 h.port in
     let rest : List ℕ = body ++ zeros in
-    let la : length a ≡ 4 = count-unsigned 4 h.len in
-    let lb : length b ≡ 2 = count-unsigned 2 h.message_type in
-    let lc : length c ≡ 2 = count-unsigned 2 h.flags.0 in
-    let ld : length d ≡ 4 = count-unsigned 4 h.sequence_number in
-    let le : length e ≡ 4 = count-unsigned 4 h.port in
-    let lr : length rest ≡ length body + length zeros = length-append body zeros in
     let frame : List ℕ = (fields h ++ body) ++ zeros in
-    let from0 : frame ≡ a ++ (b ++ (c ++ (d ++ (e ++ rest)))) = simp append_assoc in
-    let from4 : drop 4 frame ≡ b ++ (c ++ (d ++ (e ++ rest))) = ap (drop 4) from0
-    ∙ drop_at a (b ++ (c ++ (d ++ (e ++ rest)))) 4 la in
-    let from6 : drop 6 frame ≡ c ++ (d ++ (e ++ rest)) =
-    ap (drop 6) (from0 ∙ sym (append_assoc a b (c ++ (d ++ (e ++ rest)))))
-    ∙ drop_at (a ++ b) (c ++ (d ++ (e ++ rest))) 6 (omega (arith, length-append a b, la, lb)) in
-    let front8 : frame ≡ (a ++ (b ++ c)) ++ (d ++ (e ++ rest)) = from0 ∙ simp append_assoc in
-    let from8 : drop 8 frame ≡ d ++ (e ++ rest) = ap (drop 8) front8
-    ∙ drop_at (a ++ (b ++ c)) (d ++ (e ++ rest)) 8
-    (omega (arith, length-append a (b ++ c), length-append b c, la, lb, lc)) in
-    let front12 : frame ≡ (a ++ (b ++ (c ++ d))) ++ (e ++ rest) = from0 ∙ simp append_assoc in
-    let from12 : drop 12 frame ≡ e ++ rest = ap (drop 12) front12
-    ∙ drop_at (a ++ (b ++ (c ++ d))) (e ++ rest) 12
-    (omega (arith, length-append a (b ++ (c ++ d)), length-append b (c ++ d), length-append c d, la, lb, lc, ld)) in
-    let front16 : frame ≡ (a ++ (b ++ (c ++ (d ++ e)))) ++ rest = from0 ∙ simp append_assoc in
-    let from16 : drop 16 frame ≡ rest = ap (drop 16) front16
-    ∙ drop_at (a ++ (b ++ (c ++ (d ++ e)))) rest 16
-    (omega (
-      arith,
-      length-append a (b ++ (c ++ (d ++ e))),
-      length-append b (c ++ (d ++ e)),
-      length-append c (d ++ e),
-      length-append d e,
-      la,
-      lb,
-      lc,
-      ld,
-      le,
-    )) in
-    let the_len : number_in 4 0 frame ≡ h.len = ap (little_number 4) from0
-    ∙ little_number-reads_back 4 h.len (b ++ (c ++ (d ++ (e ++ rest)))) fits.len in
-    let the_type : number_in 2 4 frame ≡ h.message_type = ap (little_number 2) from4
-    ∙ little_number-reads_back 2 h.message_type (c ++ (d ++ (e ++ rest))) fits.message_type in
-    let the_flags : number_in 2 6 frame ≡ h.flags.0 = ap (little_number 2) from6
-    ∙ little_number-reads_back 2 h.flags.0 (d ++ (e ++ rest)) fits.flags in
-    let the_number : number_in 4 8 frame ≡ h.sequence_number = ap (little_number 4) from8
-    ∙ little_number-reads_back 4 h.sequence_number (e ++ rest) fits.sequence_number in
-    let the_port : number_in 4 12 frame ≡ h.port = ap (little_number 4) from12
-    ∙ little_number-reads_back 4 h.port rest fits.port in
+    let split : frame ≡ fields h ++ rest = append_assoc (fields h) body zeros in
+    let front : length (fields h) ≡ 16 = fields-length same h in
+    let behind : length rest ≡ length body + length zeros = length-append body zeros in
+    let from16 : drop 16 frame ≡ rest = ap (drop 16) split ∙ drop_at (fields h) rest 16 front in
     let payload : take (h.len - 16) (drop 16 frame) ≡ rest = ap (take (h.len - 16)) (from16 ∙ sym (append-nil rest))
     ∙ take_at rest [] (h.len - 16) (omega arith) in
     record {
-      header_is = rw (the_len, the_type, the_flags, the_number, the_port) refl;
+      header_is = header-read h frame rest fits split;
       least = omega arith;
-      whole = ap (λ (s : List ℕ). length s) front16 ∙ omega (
-        arith,
-        length-append (a ++ (b ++ (c ++ (d ++ e)))) rest,
-        length-append a (b ++ (c ++ (d ++ e))),
-        length-append b (c ++ (d ++ e)),
-        length-append c (d ++ e),
-        length-append d e,
-        la,
-        lb,
-        lc,
-        ld,
-        le,
-      );
+      whole = ap (λ (s : List ℕ). length s) split ∙ omega (arith, length-append (fields h) rest, front);
       payload_is = ap (λ (s : List ℕ). Ok s) payload;
     }
 
