@@ -9,31 +9,20 @@ use Rattle.neli_wire.specs.declared.errors.DeError.{DeError}
 use Rattle.neli_reader.specs.Framed.{Nlmsghdr}
 use Rattle.neli_reader.specs.NlPayload.{NlPayload}
 use Rattle.neli_reader.specs.NlPayload.TheVariants as payload
-use Rattle.neli_reader.specs.RouterError.{RouterError}
-use Rattle.neli_reader.specs.RouterError.TheVariants as router
-use Rattle.neli_reader.specs.SocketError.{SocketError}
-use Rattle.neli_reader.specs.SocketError.TheVariants as socket
 use Rattle.neli_reader.specs.Retyping.{IsTyped}
 use Rattle.neli_deliveries.specs.declared.delivery.Delivery.{Delivery}
 use Rattle.neli_deliveries.specs.declared.delivery.Delivery.TheVariants as delivery
 use Rattle.neli_deliveries.specs.Readings.{IsReading, Item}
 use Rattle.neli_router.specs.Rule.{ends_alone, first_place, last_item, last_item_of_payload, last_place, single_place}
-use Rattle.neli_router.specs.Verdicts.{code_verdict, end_code, error_verdict, fault_verdict, given_of, is_flagged}
+use Rattle.neli_router.specs.Verdicts.{code_verdict, end_code, given_of, is_flagged}
 use Rattle.neli_router.specs.Verdicts.{last_given, last_verdict, verdict, verdict_at_end}
 use Rattle.neli_router.specs.declared.verdict.Verdict.TheVariants as stands
 use Rattle.neli_router.specs.laws.Places.{true_or_false, within_front}
-use Rattle.neli_router.specs.laws.Verdicts.{item_there, take_next}
+use Rattle.neli_router.specs.laws.Verdicts.{error_fails, item_there, take_next}
 use Rattle.neli_runs.specs.Outcomes.{AreReadings}
 use Rattle.neli_runs.specs.Whole.{IsWholeAnswer}
 
 -- ---- what is complete
-
-fault_lost : (e : SocketError) → fault_verdict e ≡ stands.Complete → ⊥
-fault_lost (socket.Msg m) h = cc
-fault_lost (socket.Ser m) h = cc
-fault_lost (socket.De m) h = cc
-fault_lost (socket.Io m) h = cc
-fault_lost socket.Memory h = cc
 
 code_zero : (c : ℤ) (b : Bool) → int_eq c (pos 0) ≡ b → (if b then stands.Complete else stands.Failed c) ≡ stands.Complete
     → c ≡ pos 0
@@ -51,20 +40,6 @@ none_below : (n : ℕ) → suc n ≤ 0 → ⊥
 none_below n h = omega (arith, h)
 
 module _ {K P : Type 0} where
-  error_lost : (e : RouterError K P) → error_verdict e ≡ stands.Complete → ⊥
-  error_lost (router.Msg m) h = cc
-  error_lost (router.Io m) h = cc
-  error_lost (router.De m) h = cc
-  error_lost (router.Socket m) h = fault_lost m h
-  error_lost (router.Nlmsgerr m) h = cc
-  error_lost (router.Capped m) h = cc
-  error_lost (router.BadSeqOrPid m) h = cc
-  error_lost router.NoAck h = cc
-  error_lost router.UnexpectedAck h = cc
-  error_lost router.ClosedChannel h = cc
-  error_lost (router.SeqInUse m) h = cc
-  error_lost router.Memory h = cc
-
   payload_whole : (needs gave : Bool) (m : Nlmsghdr K P) (p : NlPayload K P)
       → last_verdict (last_item_of_payload needs gave m p) ≡ stands.Complete
       → last_item_of_payload needs gave m p ≡ Ok m
@@ -84,7 +59,7 @@ module _ {K P : Type 0} where
   -- the last item of a complete answer is the message that came
   whole_last : (needs gave : Bool) (x : Item K P) → last_verdict (last_item needs gave x) ≡ stands.Complete
       → (m : Nlmsghdr K P) × (x ≡ Ok m) × (last_item needs gave x ≡ Ok m) × (end_code m.payload ≡ pos 0)
-  whole_last needs gave (Err e) h = absurd (error_lost e h)
+  whole_last needs gave (Err e) h = absurd ((error_fails e).1 h)
   whole_last needs gave (Ok m) h =
       let same : last_item needs gave (Ok m) ≡ Ok m = payload_whole needs gave m m.payload h in
       let code : code_verdict (end_code m.payload) ≡ stands.Complete =

@@ -248,31 +248,32 @@ code_ends : (c : ℤ) → code_verdict c ≢ stands.Pending
 code_ends c = elim (int_eq c (pos 0)) as (λ b. (if b then stands.Complete else stands.Failed c) ≢ stands.Pending)
     [ true ↦ (λ h. cc) | false ↦ (λ h. cc) ]
 
-fault_ends : (e : SocketError) → fault_verdict e ≢ stands.Pending
-fault_ends (socket.Msg m) h = cc
-fault_ends (socket.Ser m) h = cc
-fault_ends (socket.De m) h = cc
-fault_ends (socket.Io m) h = cc
-fault_ends socket.Memory h = cc
+-- an error's verdict is neither pending nor complete
+fault_fails : (e : SocketError) → (fault_verdict e ≢ stands.Pending) × (fault_verdict e ≢ stands.Complete)
+fault_fails (socket.Msg m) = ((λ h. cc), (λ h. cc))
+fault_fails (socket.Ser m) = ((λ h. cc), (λ h. cc))
+fault_fails (socket.De m) = ((λ h. cc), (λ h. cc))
+fault_fails (socket.Io m) = ((λ h. cc), (λ h. cc))
+fault_fails socket.Memory = ((λ h. cc), (λ h. cc))
 
 module _ {K P : Type 0} where
-  error_ends : (e : RouterError K P) → error_verdict e ≢ stands.Pending
-  error_ends (router.Msg m) h = cc
-  error_ends (router.Io m) h = cc
-  error_ends (router.De m) h = cc
-  error_ends (router.Socket m) h = fault_ends m h
-  error_ends (router.Nlmsgerr m) h = cc
-  error_ends (router.Capped m) h = cc
-  error_ends (router.BadSeqOrPid m) h = cc
-  error_ends router.NoAck h = cc
-  error_ends router.UnexpectedAck h = cc
-  error_ends router.ClosedChannel h = cc
-  error_ends (router.SeqInUse m) h = cc
-  error_ends router.Memory h = cc
+  pub error_fails : (e : RouterError K P) → (error_verdict e ≢ stands.Pending) × (error_verdict e ≢ stands.Complete)
+  error_fails (router.Msg m) = ((λ h. cc), (λ h. cc))
+  error_fails (router.Io m) = ((λ h. cc), (λ h. cc))
+  error_fails (router.De m) = ((λ h. cc), (λ h. cc))
+  error_fails (router.Socket m) = fault_fails m
+  error_fails (router.Nlmsgerr m) = ((λ h. cc), (λ h. cc))
+  error_fails (router.Capped m) = ((λ h. cc), (λ h. cc))
+  error_fails (router.BadSeqOrPid m) = ((λ h. cc), (λ h. cc))
+  error_fails router.NoAck = ((λ h. cc), (λ h. cc))
+  error_fails router.UnexpectedAck = ((λ h. cc), (λ h. cc))
+  error_fails router.ClosedChannel = ((λ h. cc), (λ h. cc))
+  error_fails (router.SeqInUse m) = ((λ h. cc), (λ h. cc))
+  error_fails router.Memory = ((λ h. cc), (λ h. cc))
 
   last_ends : (x : Item K P) → last_verdict x ≢ stands.Pending
   last_ends (Ok m) h = code_ends (end_code m.payload) h
-  last_ends (Err e) h = error_ends e h
+  last_ends (Err e) h = (error_fails e).0 h
 
   -- a verdict but pending stays
   stays : (v : Verdict) (ended : Bool) (g : Item K P) → v ≢ stands.Pending → v ≡ verdict_with v ended g
