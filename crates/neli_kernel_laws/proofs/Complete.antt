@@ -16,44 +16,34 @@ use Rattle.neli_deliveries.specs.Deliveries.{Untyped, is_reply}
 use Rattle.neli_kernel.specs.Answers.{acknowledgement, capped_error, error}
 use Rattle.neli_kernel.specs.Delivered.{IsFor, answer_kept, reply_kept}
 use Rattle.neli_kernel.specs.declared.request.Request.{Request}
-use Rattle.neli_kernel_laws.specs.Complete.{IsComplete, IsEnding, IsPart, IsWhole}
+use Rattle.neli_kernel_laws.specs.Complete.{IsComplete, IsEnding, IsError, IsPart, IsWhole}
 use Rattle.neli_kernel_laws.specs.Served.{numbered}
 
 -- ---- whole answers
 
+-- one message that ends the answer is all of it
+alone : (needs : Bool) (u : Untyped) → IsEnding needs (u ∷ []) → IsComplete needs (u ∷ [])
+alone needs u ends = ([], u ∷ [], All-nil IsPart, ends, refl)
+
+error-ends : (needs : Bool) (u : Untyped) → IsError u → IsEnding needs (u ∷ [])
+error-ends true u is = is.0
+error-ends false u is = inl is
+
 pub acknowledgement_complete : (asked : Request) (attrs : Attributes)
     → IsComplete true (answer_kept (acknowledgement asked attrs) ∷ [])
-acknowledgement_complete asked attrs = ([], answer_kept (acknowledgement asked attrs) ∷ [], All-nil IsPart, refl, refl)
-
-capped-ends : (needs : Bool) (asked : Request) (code : ℤ) (attrs : Attributes)
-    → IsEnding needs (answer_kept (capped_error asked code attrs) ∷ [])
-capped-ends true asked code attrs = refl
-capped-ends false asked code attrs = inl (refl, refl)
+acknowledgement_complete asked attrs = alone true (answer_kept (acknowledgement asked attrs)) refl
 
 pub capped_complete : (needs : Bool) (asked : Request) (code : ℤ) (attrs : Attributes)
     → IsComplete needs (answer_kept (capped_error asked code attrs) ∷ [])
-capped_complete needs asked code attrs = (
-  [],
-  answer_kept (capped_error asked code attrs) ∷ [],
-  All-nil IsPart,
-  capped-ends needs asked code attrs,
-  refl,
-)
-
-error-ends : (needs : Bool) (asked : Request) (code : ℤ) (attrs : Attributes)
-    → IsEnding needs (answer_kept (error asked code attrs) ∷ [])
-error-ends true asked code attrs = refl
-error-ends false asked code attrs = inl (refl, refl)
+capped_complete needs asked code attrs =
+    let u : Untyped = answer_kept (capped_error asked code attrs) in
+    alone needs u (error-ends needs u (refl, refl))
 
 pub error_complete : (needs : Bool) (asked : Request) (code : ℤ) (attrs : Attributes)
     → IsComplete needs (answer_kept (error asked code attrs) ∷ [])
-error_complete needs asked code attrs = (
-  [],
-  answer_kept (error asked code attrs) ∷ [],
-  All-nil IsPart,
-  error-ends needs asked code attrs,
-  refl,
-)
+error_complete needs asked code attrs =
+    let u : Untyped = answer_kept (error asked code attrs) in
+    alone needs u (error-ends needs u (refl, refl))
 
 reply-whole : (message_type number port : ℕ) (flags : NlmF) (text : List ℕ) → message_type < 65536
     → is_multi flags ≡ false → IsWhole (reply_kept message_type flags number port text)
@@ -65,13 +55,9 @@ reply-whole message_type number port flags text fits single = record {
 
 pub reply_complete : (message_type number port : ℕ) (flags : NlmF) (text : List ℕ) → message_type < 65536
     → is_multi flags ≡ false → IsComplete false (reply_kept message_type flags number port text ∷ [])
-reply_complete message_type number port flags text fits single = (
-  [],
-  reply_kept message_type flags number port text ∷ [],
-  All-nil IsPart,
-  inr (reply-whole message_type number port flags text fits single),
-  refl,
-)
+reply_complete message_type number port flags text fits single =
+    alone false (reply_kept message_type flags number port text)
+    (inr (reply-whole message_type number port flags text fits single))
 
 pub acknowledged_complete : (message_type number port : ℕ) (flags : NlmF) (text : List ℕ) (asked : Request)
     (attrs : Attributes) → message_type < 65536 → is_multi flags ≡ false
