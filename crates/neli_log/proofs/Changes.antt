@@ -186,6 +186,10 @@ positions_count n (e ∷ es) = elim (true_or_false (is_shared e.route)) [
   | inr it ↦ rw it (positions_count (suc n) es)
 ]
 
+pub shared_length : {T : Type 0} (base : ℕ) (es : List (Entry T)) (shared : List Shared)
+    → map (λ s. s.at) shared ≡ shared_positions base es → length shared ≡ shared_count es
+shared_length base es shared are = sym (length-map shared (λ s. s.at)) ∙ (ap length are ∙ positions_count base es)
+
 pub fresh_place : {T : Type 0} (w : Option ℕ) (base : ℕ) (es : List (Entry T)) (links : List (Option ℕ)) (x : Place)
     → x.from ≡ base + length es → x.chain ≡ None → IsPlace w base es links x
 fresh_place w base es links x from none =
@@ -201,8 +205,7 @@ pub fresh_seen : {T : Type 0} (shared_base base : ℕ) (es : List (Entry T)) (sh
     → map (λ s. s.at) shared ≡ shared_positions base es → CountsPassed shared_base base es x
 fresh_seen shared_base base es shared x from seen sp =
     let k : length es ≤ x.from - base = omega arith in
-    let l : length shared ≡ shared_count es = sym (length-map shared (λ s. s.at))
-    ∙ (ap length sp ∙ positions_count base es) in
+    let l : length shared ≡ shared_count es = shared_length base es shared sp in
     rw (take_end es (x.from - base) k) (seen ∙ ap (λ n. shared_base + n) l)
 
 abbrev one_at : ℕ → Place → ℕ
@@ -234,8 +237,7 @@ pub seen_bounds : {T : Type 0} (shared_base base : ℕ) (es : List (Entry T)) (s
     → map (λ s. s.at) shared ≡ shared_positions base es → CountsPassed shared_base base es p
     → (shared_base ≤ p.shared_passed) × (p.shared_passed - shared_base ≤ length shared)
 seen_bounds shared_base base es shared p sp h =
-    let l : length shared ≡ shared_count es = sym (length-map shared (λ s. s.at))
-    ∙ (ap length sp ∙ positions_count base es) in
+    let l : length shared ≡ shared_count es = shared_length base es shared sp in
     let le = count_split (p.from - base) es in
     (omega (arith, h), omega (arith, h, l, le))
 

@@ -21,7 +21,7 @@ use Rattle.neli_log.proofs.Waits.{eqb_refl}
 use Rattle.std.specs.Map.{lookup, set_value, values_of}
 use Rattle.std.specs.HashMap.{HashMap, get, values}
 use Rattle.std.proofs.lemmas.Map.Entries.{sum_by-set_value}
-use Rattle.neli_log.proofs.Changes.{changed_number, sound_put, eqb_other}
+use Rattle.neli_log.proofs.Changes.{changed_number, count_split, sound_put, eqb_other}
 use Rattle.neli_log.proofs.Nexts.{IsFirst, IsNext, next_is, found_some, found_none, found_is, skip_found}
 use Rattle.neli_log.proofs.Nexts.{items_first, slice_get_drop, to_neither, own_unshared, not_shared}
 
@@ -185,6 +185,13 @@ module _ {T : Type 0} (w : Option ℕ) (base : ℕ) (es : List (Entry T)) (links
       let a = count_add (p.from - base) (suc i) es in
       let b = count_one i (drop (p.from - base) es) e n.here.at it (before_unshared q is) in
       rw behind (omega (arith, a, b))
+
+  pub passed_less : (q shared_base : ℕ) → w ≡ Some q → is_shared e.route ≡ true → CountsPassed shared_base base es p
+      → p.shared_passed < shared_base + shared_count es
+  passed_less q shared_base is it seen =
+      let a = counted_shared q is it in
+      let le = count_split (m + 1 - base) es in
+      omega (arith, a, le, seen)
 
   pub seen_shared : (q shared_base : ℕ) (x : Place) → w ≡ Some q → is_shared e.route ≡ true → x.from ≡ m + 1
       → x.shared_passed ≡ p.shared_passed + 1 → CountsPassed shared_base base es p → CountsPassed shared_base base es x

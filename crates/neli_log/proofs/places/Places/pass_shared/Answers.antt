@@ -1,14 +1,12 @@
-use Rattle.std.proofs.Common.{refl, Some, ◌≡◌, ◌+◌, ◌-◌, sym, ◌∙◌, arith, ap, length}
+use Rattle.std.proofs.Common.{refl, Some, ◌+◌, ◌-◌, ◌∙◌, arith}
 use Rattle.std.specs.HashMap.{get}
 use Rattle.std.specs.Prelude.{nat_eq}
 use Rattle.neli_log.specs.Places.{place_of}
 use Rattle.neli_log.proofs.Waits.{eqb_refl}
 use Rattle.neli_log.specs.declared.place.Place.{Place}
-use Rattle.std.proofs.lemmas.List.{length-map}
-use Rattle.neli_log.specs.Routes.{shared_count}
-use Rattle.neli_log.proofs.Changes.{place_bounds, place_standing, positions_count, count_split}
+use Rattle.neli_log.proofs.Changes.{place_bounds, place_standing, shared_length}
 use Rattle.neli_log.proofs.Nexts.{next_is}
-use Rattle.neli_log.proofs.Passes.{passed_pending, sound_moved, place_shared, seen_shared, counted_shared}
+use Rattle.neli_log.proofs.Passes.{passed_less, passed_pending, sound_moved, place_shared, seen_shared}
 use Rattle.neli_log.proofs.places.Places.pass_shared.Goals as goal
 
 pub overflow_sub-i : goal.overflow_sub-i
@@ -40,16 +38,12 @@ pub raise-requires-clause-within : goal.raise-requires-clause-within
 raise-requires-clause-within g c =
     let s = c.args.self.now in let h = c.requires.sound in
     let n = next_is (Some c.args.n) s.base s.entries.items c.args.p c.args.m c.requires.next in
-    let a = counted_shared (Some c.args.n) s.base s.entries.items s.links.items c.args.p c.args.m n.0 n.1 n.2 c.args.n
-    refl (c.requires.route n.1 n.2.at) in
-    let le = count_split (c.args.m + 1 - s.base) s.entries.items in
-    let l : length s.shared.items ≡ shared_count s.entries.items = sym (length-map s.shared.items (λ x. x.at))
-    ∙ (ap length h.positions_are ∙ positions_count s.base s.entries.items) in
-    let l' : length c.lower.new.shared.items ≡ length s.shared.items =
-    sym (length-map c.lower.new.shared.items (λ x. x.at))
-    ∙ (ap length c.lower.ensures.positions ∙ length-map s.shared.items (λ x. x.at)) in
     let seen = h.passed c.args.n c.args.p c.requires.is in
-    omega (arith, a, le, l, l', seen)
+    let less = passed_less (Some c.args.n) s.base s.entries.items s.links.items c.args.p c.args.m n.0 n.1 n.2 c.args.n
+    s.shared_base refl (c.requires.route n.1 n.2.at) seen in
+    let lowered = shared_length s.base s.entries.items c.lower.new.shared.items
+    (c.lower.ensures.positions ∙ h.positions_are) in
+    omega (arith, seen, less, lowered)
 
 pub overflow_add-after : goal.overflow_add-after
 overflow_add-after g c =
@@ -61,13 +55,11 @@ pub overflow_add-after-2 : goal.overflow_add-after-2
 overflow_add-after-2 g c =
     let s = c.args.self.now in let h = c.requires.sound in
     let n = next_is (Some c.args.n) s.base s.entries.items c.args.p c.args.m c.requires.next in
-    let a = counted_shared (Some c.args.n) s.base s.entries.items s.links.items c.args.p c.args.m n.0 n.1 n.2 c.args.n
-    refl (c.requires.route n.1 n.2.at) in
-    let le = count_split (c.args.m + 1 - s.base) s.entries.items in
-    let l : length s.shared.items ≡ shared_count s.entries.items = sym (length-map s.shared.items (λ x. x.at))
-    ∙ (ap length h.positions_are ∙ positions_count s.base s.entries.items) in
     let seen = h.passed c.args.n c.args.p c.requires.is in
-    omega (arith, a, le, l, seen, h.shared_fits, h.fits)
+    let less = passed_less (Some c.args.n) s.base s.entries.items s.links.items c.args.p c.args.m n.0 n.1 n.2 c.args.n
+    s.shared_base refl (c.requires.route n.1 n.2.at) seen in
+    let l = shared_length s.base s.entries.items s.shared.items h.positions_are in
+    omega (arith, less, l, h.shared_fits, h.fits)
 
 pub returns-clause-taken : goal.returns-clause-taken
 returns-clause-taken g c = λ d ds old.

@@ -1,10 +1,8 @@
-use Rattle.std.proofs.Common.{refl, Some, ◌≡◌, ◌+◌, ◌-◌, sym, ◌∙◌, arith, ap, length}
-use Rattle.std.proofs.lemmas.List.{length-map}
+use Rattle.std.proofs.Common.{refl, Some, ◌+◌, arith}
 use Rattle.neli_log.specs.declared.place.Place.{Place}
-use Rattle.neli_log.specs.Routes.{shared_count}
-use Rattle.neli_log.proofs.Changes.{positions_count, count_split}
+use Rattle.neli_log.proofs.Changes.{shared_length}
 use Rattle.neli_log.proofs.Nexts.{next_is}
-use Rattle.neli_log.proofs.Passes.{place_shared, seen_shared, counted_shared}
+use Rattle.neli_log.proofs.Passes.{passed_less, place_shared, seen_shared}
 use Rattle.neli_log.proofs.places.Places.past_shared.Goals as goal
 
 pub overflow_add-result : goal.overflow_add-result
@@ -17,13 +15,11 @@ pub overflow_add-result-2 : goal.overflow_add-result-2
 overflow_add-result-2 g c =
     let s = c.args.self.now in let h = c.requires.sound in
     let n = next_is (Some c.args.n) s.base s.entries.items c.args.p c.args.m c.requires.next in
-    let a = counted_shared (Some c.args.n) s.base s.entries.items s.links.items c.args.p c.args.m n.0 n.1 n.2 c.args.n
-    refl (c.requires.route n.1 n.2.at) in
-    let le = count_split (c.args.m + 1 - s.base) s.entries.items in
-    let l : length s.shared.items ≡ shared_count s.entries.items = sym (length-map s.shared.items (λ x. x.at))
-    ∙ (ap length h.positions_are ∙ positions_count s.base s.entries.items) in
     let seen = c.requires.stands.counted c.args.n refl in
-    omega (arith, a, le, l, seen, h.shared_fits, h.fits)
+    let less = passed_less (Some c.args.n) s.base s.entries.items s.links.items c.args.p c.args.m n.0 n.1 n.2 c.args.n
+    s.shared_base refl (c.requires.route n.1 n.2.at) seen in
+    let l = shared_length s.base s.entries.items s.shared.items h.positions_are in
+    omega (arith, less, l, h.shared_fits, h.fits)
 
 pub returns-clause-stands : goal.returns-clause-stands
 returns-clause-stands g c =
