@@ -2,6 +2,7 @@
 use Rattle.std.proofs.Common.{◌≡◌, ◌≢◌, ◌<◌, ℕ, List, [], ◌∷◌, ◌++◌, length, length-set, Option, Some}
 use Rattle.std.proofs.Common.{None, slice_get}
 use Rattle.std.proofs.Common.{slice_set, arith, refl, suc, sym, subst, ap, ◌∙◌, zero}
+use Rattle.std.proofs.lemmas.List.{set-set}
 use Rattle.std.proofs.lemmas.Option.{slice_get_past}
 use Rattle.neli_router.specs.declared.handle.HandleState.{HandleState}
 use Rattle.neli_c_parts.specs.declared.session.Slot.{Slot}
@@ -56,6 +57,17 @@ open-apart slots first (j ∷ later) k h free is = (
 pub free-read : (slots : List Slot) (first : ℕ) (ks : List ℕ) (k : ℕ) (h : HandleState) (x : Slot)
     → handle_at k slots ≡ Some h → AreFree slots first ks → AreFree (slice_set slots k x) first ks
 free-read slots first ks k h x is free = free-set slots first ks k x free (open-apart slots first ks k h free is)
+
+-- and so does a handle that is taken out of its place and put back, as it is after the call
+pub put-back : (slots out : List Slot) (first now k : ℕ) (h after : HandleState) → handle_at k slots ≡ Some h
+    → out ≡ slice_set slots k (slot.Free 0) → now ≡ first
+    → (slice_set out k (slot.Open after) ≡ slice_set slots k (slot.Open after))
+    × ((ks : List ℕ) → AreFree slots first ks → AreFree (slice_set out k (slot.Open after)) now ks)
+put-back slots out first now k h after there taken same =
+    let put : slice_set out k (slot.Open after) ≡ slice_set slots k (slot.Open after) =
+    ap (λ (hs : List Slot). slice_set hs k (slot.Open after)) taken
+    ∙ set-set slots k (slot.Free 0) (slot.Open after) in
+    (put, λ ks free. rw (put, same) (free-read slots first ks k h (slot.Open after) there free))
 
 -- a freed place is the first of them
 pub freed-first : (slots after : List Slot) (first f : ℕ) (ks : List ℕ) (k : ℕ) (h : HandleState) → f ≡ k → k ≢ 0
