@@ -4,13 +4,14 @@
 
 use super::support::request;
 use neli::consts::nl::NlmF;
-use neli::err::RouterError;
+use neli::err::{RouterError, SocketError};
 use neli::genl::{Genlmsghdr, GenlmsghdrBuilder};
-use neli::router::synchronous::{Log, NlRouter, NlRouterReceiverHandle};
+use neli::router::synchronous::{Log, Loss, NlRouter, NlRouterReceiverHandle, Verdict};
 use neli::short::{Client, ExtAck as _, ExtAckBuilder, Lookup, Put};
 use neli::simulator::{ExtAck, Request};
 use neli::types::GenlBuffer;
 use std::alloc::Global;
+use std::io::ErrorKind;
 use std::process::Abort;
 use std::test::Fail;
 
@@ -132,5 +133,24 @@ fn a_refusal_is_read(rt: HostRuntime) -> Result<(), Fail> {
     assert_eq!(rt; *answer.error(), -2);
     assert_eq!(rt; answer.text(), Some("no such counter"));
     assert_eq!(rt; answer.offset(), Some(20));
+    Ok(())
+}
+
+/// A dump whose second datagram is lost, since the socket's buffer ran over, and what the client reads.
+#[test]
+fn a_lost_datagram_is_noticed(rt: HostRuntime) -> Result<(), Fail> {
+    let alloc = rt.alloc();
+    let (mut router, _multicast) = NlRouter::<Log>::new(alloc, PORT);
+    let mut sent = router.request(alloc, FAMILY, NlmF::DUMP, counter(alloc, None)?)?;
+    let datagrams = served(alloc, &request(&rt, PORT, &sent.bytes))?;
+    assert_eq!(rt; datagrams.len(), 2);
+    router.receive_for(alloc, &datagrams[0], &[])?;
+    router.link_overran()?;
+    let dump = router.read_dump(alloc, &mut sent.handle)?;
+    assert_eq!(rt; dump.items.len(), 3);
+    let Some(Err(RouterError::Socket(SocketError::Io(ErrorKind::Other)))) = dump.items.last() else {
+        rt.panic("no fault of the link")
+    };
+    assert_eq!(rt; dump.verdict, Verdict::Lost(Loss::Link));
     Ok(())
 }
