@@ -55,7 +55,7 @@ enum neli_code {
     NELI_LENGTH = -2,         /* a length does not fit: below its header, past the bytes, or past its field */
     NELI_MEMORY = -3,         /* memory ran out; everything is unchanged, unless the call says otherwise */
     NELI_ROOM = -4,           /* the room is too small; nothing was written, or of a text its beginning */
-    NELI_STATE = -5,          /* the router, the dump or the tables are closed, or are open already */
+    NELI_STATE = -5,          /* the router, the dump or the tables are closed or open already, or a dump is finished */
     NELI_HANDLE = -6,         /* no such handle exists, or no item was read */
     NELI_IN_USE = -7,         /* the sequence number belongs to a request that is not closed */
     NELI_STRAY = -8,          /* a message arrived with a port or a sequence number that no request has */
@@ -360,7 +360,7 @@ static inline uint8_t *neli_write_at(uint8_t *at) {
 /* ---- Codes in words ---- */
 
 /* Writes the text of a code, with a zero byte; NELI_ROOM if it is longer than the room. NELI_TEXT_SIZE bytes suffice. A
- * number that is no code has a text too. */
+ * number that is no code has a text too. NELI_NULL if `text` is null, whatever the room. */
 static inline int32_t neli_error_text(int32_t code, char *text, size_t room) {
     size_t length = 0;
     if (text == NULL || room > PTRDIFF_MAX) return NELI_NULL;
@@ -536,8 +536,9 @@ static inline int32_t neli_end_message(uint8_t *out, size_t room, const struct n
 
 /* ---- The router ---- */
 
-/* All but the first two return NELI_STATE if the router is closed. NELI_MEMORY leaves the router unchanged; the same
- * call can be repeated. */
+/* All but the first two return NELI_STATE if the router is closed. Those that open it, send, take in, read, listen or
+ * copy an item return NELI_MEMORY if memory runs out, which leaves the router unchanged; the same call can be
+ * repeated. */
 
 /* Opens a router for the port of the caller's socket; NELI_STATE if it is open, and it stays so. */
 static inline int32_t neli_router_new(struct neli_router *router, uint32_t port) {
@@ -634,7 +635,8 @@ static inline int32_t neli_router_lend(struct neli_router *router, size_t handle
  * until neli_router_pass_items, and what is lent until the next call of this router. It stops before what is no
  * message. Where that comes first, as an error, the end or a wait, `count` is 0, and the call returns what
  * neli_router_lend does, which stores into the first place: at NELI_KERNEL_ERROR the error. NELI_ROOM if there is room
- * for none. No memory is taken. The items past those that are stored have no bytes. */
+ * for none; `count` is 0 at NELI_ROOM and NELI_STATE too. No memory is taken. The items past those that are stored have
+ * no bytes. */
 static inline int32_t neli_router_lend_items(struct neli_router *router, size_t handle, struct neli_lent *items,
                                              size_t item_room, size_t *count) {
     static struct neli_lent none[1];
@@ -655,7 +657,8 @@ static inline int32_t neli_router_pass(struct neli_router *router, size_t handle
     return neli_c_router_pass(router, handle);
 }
 
-/* Goes on past so many items of a handle, or past all that wait: as so many calls of neli_router_pass. */
+/* Goes on past so many items of a handle, or past all that wait: as so many calls of neli_router_pass. NELI_HANDLE if
+ * the handle is not open. */
 static inline int32_t neli_router_pass_items(struct neli_router *router, size_t handle, size_t count) {
     if (router == NULL) return NELI_NULL;
     return neli_c_router_pass_items(router, handle, count);
@@ -814,8 +817,9 @@ static inline int32_t neli_kernel_dump_next(struct neli_kernel_dump *dump, uint8
 /* ---- Messages by name ---- */
 
 /* What attributes are called and what their payloads are stands in tables of families: docs/TABLES.md. All but the
- * first two calls return NELI_STATE if the tables are closed. NELI_MEMORY leaves them unchanged; printing takes no
- * memory. NELI_LENGTH if a text has more bytes than a size_t counts: `size` is as it was then. */
+ * first three calls return NELI_STATE if the tables are closed. Those that open tables, add or learn return NELI_MEMORY
+ * if memory runs out, which leaves them unchanged; printing takes none. NELI_LENGTH if a text has more bytes than a
+ * size_t counts: `size`, and the `count` of items, are as they were then. */
 
 /* Opens tables without any family; NELI_STATE if they are open, and they stay so. */
 static inline int32_t neli_tables_new(struct neli_tables *tables) {
@@ -823,7 +827,8 @@ static inline int32_t neli_tables_new(struct neli_tables *tables) {
     return neli_c_tables_new(tables);
 }
 
-/* Opens the tables of all families that the library has; NELI_STATE if they are open. */
+/* Opens the tables of all families that the library has; NELI_STATE if they are open, and NELI_TABLE if a text that is
+ * built in cannot be read, and they stay as they are. */
 static inline int32_t neli_tables_built_in(struct neli_tables *tables) {
     if (tables == NULL) return NELI_NULL;
     return neli_c_tables_built_in(tables);
@@ -919,7 +924,10 @@ static inline int32_t neli_named_items(struct neli_tables *tables, uint16_t prot
 
 /* Checks that a message's attributes are as their rows say, as those of a request before it is sent: NELI_OK, or
  * NELI_VIOLATION, and then `out` has the path of the first that is not, and what is wrong with it. What has no row
- * passes. */
+ * passes. NELI_PLACE if the payload is past the bytes.
+ *
+ * NELI_VIOLATION is returned also if that text does not fit: `out` has its beginning, and `size` is how long the whole
+ * is. Without NELI_VIOLATION `size` is as it was. */
 static inline int32_t neli_check(struct neli_tables *tables, uint16_t protocol, const uint8_t *bytes, size_t length,
                                  const struct neli_message *message, char *out, size_t room, size_t *size) {
     if (tables == NULL || !neli_is_slice(bytes, length) || message == NULL) return NELI_NULL;
@@ -929,7 +937,11 @@ static inline int32_t neli_check(struct neli_tables *tables, uint16_t protocol, 
 }
 
 /* Prints the path to the attribute that contains an offset, counted from the message's first byte, as that of an
- * extended acknowledgement (NELI_ANSWER_OFFSET): NELI_ITEM, or NELI_END where the tables know no attribute there. */
+ * extended acknowledgement (NELI_ANSWER_OFFSET): NELI_ITEM, or NELI_END where the tables know no attribute there.
+ * NELI_PLACE if the payload is past the bytes.
+ *
+ * NELI_ITEM is returned also if the path does not fit: `path` has its beginning, and `size` is how long the whole is.
+ * Without NELI_ITEM `size` is as it was. */
 static inline int32_t neli_path_at(struct neli_tables *tables, uint16_t protocol, const uint8_t *bytes, size_t length,
                                    const struct neli_message *message, size_t offset, char *path, size_t room,
                                    size_t *size) {
@@ -942,7 +954,8 @@ static inline int32_t neli_path_at(struct neli_tables *tables, uint16_t protocol
 /* Prints a refusal of the kernel in a line: the name and the meaning of its code, as -22 for EINVAL; its text, if it
  * sent one (NELI_ANSWER_TEXT); and the path to the attribute at its offset (NELI_ANSWER_OFFSET) in the request, which
  * is this message, if the tables know one there, as
- * `EINVAL: Invalid argument: Unknown device type: IFLA_LINKINFO.IFLA_INFO_KIND`. An offset of 0 is none. */
+ * `EINVAL: Invalid argument: Unknown device type: IFLA_LINKINFO.IFLA_INFO_KIND`. An offset of 0 is none. NELI_ROOM and
+ * NELI_PLACE as of neli_message_text. */
 static inline int32_t neli_refusal_text(struct neli_tables *tables, uint16_t protocol, const uint8_t *bytes,
                                         size_t length, const struct neli_message *message, int32_t code,
                                         const void *text, size_t text_length, size_t offset, char *out, size_t room,

@@ -5,8 +5,9 @@
  * in the datagrams that arrive, whole, once and in order.
  *
  * Calls return a code of neli.h. NELI_LINK means that the socket failed: `neli_host_fault` then returns the number in
- * errno.h. EAGAIN, EINTR and ECANCELED only mean that the caller's wait has ended, not that the socket failed. Pointer
- * arguments are not null, unless a call states otherwise.
+ * errno.h. EAGAIN, EINTR and ECANCELED only mean that the caller's wait has ended, not that the socket failed. Unless a
+ * call states otherwise, pointer arguments are not null, and one that sends, reads or receives returns NELI_MEMORY if
+ * memory runs out, and can then be repeated.
  *
  * A host is used by one thread at a time; `neli_host_stop` may be called at any time, by any thread and by a signal's
  * handler. Link with -lneli. */
@@ -29,8 +30,9 @@ struct neli_host;
 /* ---- Opening and closing ---- */
 
 /* Opens a socket of a netlink family, as NETLINK_ROUTE, in these multicast groups, and a router over it. `groups` may
- * be null if `count` is 0. Even after a refusal `neli_host_close` frees what `host` points to, and `neli_host_explain`
- * reports the cause; it points to null if memory ran out. */
+ * be null if `count` is 0. NELI_LINK if the system refuses the socket or a group; NELI_MEMORY if memory runs out. Even
+ * after a refusal `neli_host_close` frees what `host` points to, and `neli_host_explain` reports the cause; it may
+ * point to null if memory ran out. */
 int32_t neli_host_open(struct neli_host **host, int family, const uint32_t *groups, size_t count);
 
 /* Closes both, and frees the host. Does nothing to null. */
@@ -57,7 +59,7 @@ void neli_host_set_ends_by_signals(struct neli_host *host, bool ends);
 void neli_host_set_keeps_unasked(struct neli_host *host, bool keeps);
 
 /* Makes the kernel check all fields of a dump's request, and refuse those that it does not know: only then can a dump
- * list the objects of one link. */
+ * list the objects of one link. NELI_LINK if the kernel refuses, with ENOPROTOOPT if it is too old for that. */
 int32_t neli_host_set_strict(struct neli_host *host);
 
 /* Ends every current wait, and each later one, with ECANCELED. */
@@ -66,8 +68,9 @@ void neli_host_stop(const struct neli_host *host);
 /* ---- Requests ---- */
 
 /* Sends a request of any length, whose replies are read by `handle`. A dump is sent when the one before has ended, and
- * its answer waits at its handle. NELI_IN_USE also if the number's answer may still arrive, though it is closed. `body`
- * may be null if `length` is 0. */
+ * its answer waits at its handle. `body` may be null if `length` is 0. It returns what neli_router_send does, but never
+ * NELI_ROOM; NELI_IN_USE also if the number's answer may still arrive, though it is closed; and NELI_LINK if the system
+ * refuses to send it. */
 int32_t neli_host_send(struct neli_host *host, uint16_t type, uint16_t flags, const void *body, size_t length,
                        size_t *handle);
 
@@ -80,15 +83,18 @@ struct neli_host_request {
 
 /* Sends requests as one datagram, in their order: the kernel performs the first, answers it, and goes on with the next.
  * The replies to each are read by its handle; `handles` has room for as many. A refusal sends none of them. A list of
- * requests has at most one dump, since the kernel runs one at a time: NELI_KIND if it has two. */
+ * requests has at most one dump, since the kernel runs one at a time: NELI_KIND if it has two. Else it returns what
+ * `neli_host_send` does. */
 int32_t neli_host_send_all(struct neli_host *host, const struct neli_host_request *requests, size_t count,
                            size_t *handles);
 
-/* Reads the next item of a handle, and may wait for datagrams. At NELI_ITEM and NELI_KERNEL_ERROR `message` is the
- * header of the bytes at `neli_host_item`. NELI_LINK for NELI_MULTICAST and for NELI_HOST_UNASKED means that messages
- * were lost at this place; `neli_host_fault` is then ENOBUFS if the socket's buffer ran over. NELI_SHORT, NELI_LENGTH
- * and NELI_BYTES for NELI_MULTICAST mean that a message cannot be read; more items follow. At NELI_MEMORY nothing is
- * lost, if the next item that is read is this handle's. */
+/* Reads the next item of a handle, and may wait for datagrams. It returns what neli_router_read does, and for
+ * NELI_MULTICAST what neli_router_listen does, but neither NELI_WAITS nor NELI_OVERRUN; and NELI_LINK if the wait has
+ * ended. At NELI_ITEM and NELI_KERNEL_ERROR `message` is the header of the bytes at `neli_host_item`. Otherwise
+ * NELI_LINK for NELI_MULTICAST and for NELI_HOST_UNASKED means that messages were lost at this place; `neli_host_fault`
+ * is then ENOBUFS if the socket's buffer ran over. NELI_SHORT, NELI_LENGTH and NELI_BYTES for NELI_MULTICAST mean that
+ * a message cannot be read; more items follow. At NELI_MEMORY nothing is lost, if the next item that is read is this
+ * handle's. */
 int32_t neli_host_next(struct neli_host *host, size_t handle, struct neli_message *message);
 
 /* Lends the next item of a handle where the router keeps it, as neli_router_lend does, and may wait for datagrams. It
@@ -99,8 +105,8 @@ int32_t neli_host_next(struct neli_host *host, size_t handle, struct neli_messag
 int32_t neli_host_lend(struct neli_host *host, size_t handle, struct neli_lent *lent);
 
 /* Goes on to a handle's next item, so that the one before counts as read; where none waits nothing changes. Both kinds
- * of reads may take turns. NELI_HANDLE if the handle is not open. NELI_MEMORY only for NELI_MULTICAST, at a message
- * that is an error or cannot be read, and then nothing changes. */
+ * of reads may take turns. NELI_HANDLE if the handle is not open, or is NELI_HOST_UNASKED. NELI_MEMORY only for
+ * NELI_MULTICAST, at a message that is an error or cannot be read, and then nothing changes. */
 int32_t neli_host_pass(struct neli_host *host, size_t handle);
 
 /* Reports the verdict on the answer to a request, by the items read from it: whether `neli_host_next` returned all of
@@ -108,7 +114,8 @@ int32_t neli_host_pass(struct neli_host *host, size_t handle);
  * that was read last. Call it before the handle is closed. */
 int32_t neli_host_verdict(struct neli_host *host, size_t handle, struct neli_verdict *verdict);
 
-/* Closes the handle of a request, at any time: messages that still arrive for it are dropped. Or that of multicast. */
+/* Closes the handle of a request, at any time: messages that still arrive for it are dropped. Or that of multicast.
+ * NELI_HANDLE if it is not open. */
 int32_t neli_host_close_request(struct neli_host *host, size_t handle);
 
 /* ---- Lists ---- */
@@ -141,11 +148,12 @@ int32_t neli_host_resync(struct neli_host *host, const struct neli_dump *dump, s
 /* ---- Items ---- */
 
 /* Returns the bytes of the item that was read last, and their number: one message with its padding. They stay until the
- * next read. */
+ * next read. NULL and 0 if none was read. */
 const uint8_t *neli_host_item(const struct neli_host *host);
 size_t neli_host_item_length(const struct neli_host *host);
 
-/* Finds the first attribute with this number in the rest of a walk over the item. */
+/* Finds the first attribute with this number in the rest of a walk over the item. Returns false if there is none, or if
+ * the walk or what comes before it cannot be read; then `found` is as it was. */
 bool neli_host_find(const struct neli_host *host, const struct neli_walk *walk, uint16_t number,
                     struct neli_attribute *found);
 
@@ -161,7 +169,8 @@ void neli_host_explain(const struct neli_host *host, int32_t code, const struct 
 /* ---- Datagrams, for a program that routes nothing ---- */
 
 /* Waits for a datagram of the kernel, which `neli_host_datagram` then returns; its bytes stay until the next call that
- * receives. `group` is the group for which it arrived, or 0. */
+ * receives. `group` is the group for which it arrived, or 0. NELI_LINK if the wait has ended or the socket failed, with
+ * EMSGSIZE at a datagram of more than a mebibyte, which is lost; the next one may be as long. */
 int32_t neli_host_receive(struct neli_host *host, size_t *length, uint32_t *group);
 const uint8_t *neli_host_datagram(const struct neli_host *host);
 

@@ -154,7 +154,8 @@ class NetlinkError(OSError):
 
     `code` is a number of errno.h, from the kernel's error or from the socket; 0 if there is none. `status` is the code
     of neli.h, and `str` returns it in words, with the kernel's own text and offset if it sent them. `attributes` are
-    those of its extended acknowledgement, of which `text`, `offset`, `missing` and `missing_nest` are read.
+    those of its extended acknowledgement, of which `text`, `offset`, `missing` and `missing_nest` are read: they raise
+    a ValueError if one is cut.
     """
 
     def __init__(self, code, text, status=KERNEL_ERROR, attributes=()):
@@ -217,30 +218,37 @@ class Attribute:
         return struct.unpack_from(form, self.payload)[0]
 
     def u8(self):
+        """The number of 1 byte that its payload begins with; a ValueError if that is shorter."""
         return self._number("<B")
 
     def u16(self):
+        """The number of 2 bytes that its payload begins with, lowest byte first; a ValueError if that is shorter."""
         return self._number("<H")
 
     def u32(self):
+        """The number of 4 bytes, as `u16`."""
         return self._number("<I")
 
     def u64(self):
+        """The number of 8 bytes, as `u16`."""
         return self._number("<Q")
 
     def text(self):
-        """The text before the first zero byte; bytes that are no UTF-8 are kept, as os.fsdecode keeps them."""
+        """The text before the first zero byte; bytes that are no UTF-8 are kept, as os.fsdecode keeps them.
+
+        A ValueError if no zero byte ends it.
+        """
         text, zero, _ = bytes(self.payload).partition(b"\0")
         if not zero:
             raise ValueError(f"attribute {self.number} is no text: no zero byte ends it")
         return os.fsdecode(text)
 
     def attrs(self):
-        """The attributes in its payload."""
+        """The attributes in its payload; a ValueError if they cannot be read to their end."""
         return _attributes(self.payload, 0, len(self.payload))
 
     def get_attr(self, number):
-        """The first of them with this number, or None."""
+        """The first of them with this number, or None; a ValueError as of `attrs`."""
         return _first(self.attrs(), number)
 
 
@@ -290,6 +298,7 @@ class Message:
 
     @property
     def header(self):
+        """The fields of its header, by pyroute2's names."""
         return {"length": self._read.length, "type": self.type, "flags": self.flags,
                 "sequence_number": self.sequence_number, "pid": self.port}
 
@@ -310,11 +319,14 @@ class Message:
         return start
 
     def attrs(self, header_size=None):
-        """The attributes after the body's header, which has 4 bytes in generic netlink and else its type's size."""
+        """The attributes after the body's header, which has 4 bytes in generic netlink and else its type's size.
+
+        A ValueError if the type's size is not known, the payload is shorter, or they cannot be read to their end.
+        """
         return _attributes(self.payload, self._start(header_size), len(self.payload))
 
     def get_attr(self, number, header_size=None):
-        """The first attribute with this number, or None."""
+        """The first attribute with this number, or None; a ValueError as of `attrs`."""
         return _first(self.attrs(header_size), number)
 
 
@@ -326,6 +338,7 @@ class _LentAttribute(Attribute):
         self._of, self._place = of, (start, end)
 
     def attrs(self):
+        """As of any attribute; a ValueError also once the message is no longer lent."""
         return self._of._attributes(*self._place)
 
 
@@ -365,7 +378,7 @@ class Lent(Message):
         return bytes(self.payload)
 
     def attrs(self, header_size=None):
-        """The attributes after the body's header, as of any message."""
+        """The attributes after the body's header, as of any message; a ValueError also once it is no longer lent."""
         return self._attributes(self._start(header_size), len(self.payload))
 
     def _release(self):
@@ -393,8 +406,19 @@ def messages(data, family=None):
         found.append(Message(data, read, family))
 
 
+def _check_u16(*numbers):
+    """Refuses a number that 16 bits cannot hold, which ctypes would cut."""
+    for number in numbers:
+        if not 0 <= number <= 0xFFFF:
+            raise ValueError(f"{number} does not fit 16 bits")
+
+
 def nla(number, value, nested=False):
-    """An attribute with its padding, as bytes: of bytes, of a text with its zero byte, or of a list of attributes."""
+    """An attribute with its padding, as bytes: of bytes, of a text with its zero byte, or of a list of attributes.
+
+    A ValueError if its payload has more than 65531 bytes, or its number does not fit 16 bits.
+    """
+    _check_u16(number)
     if isinstance(value, (list, tuple)):
         value, nested = b"".join(value), True
     if isinstance(value, str):
@@ -424,8 +448,9 @@ class Verdict:
 class Reply:
     """The answer to a request: an iterator over its messages, without the acknowledgement and the end.
 
-    It raises a NetlinkError if the kernel refuses, and at the end if the answer is incomplete; and a ValueError once
-    its socket is closed, or bound again. It may be closed at any time, and is once nobody keeps it.
+    It raises a NetlinkError if the kernel refuses, if the wait has ended, and at the end if the answer is incomplete;
+    and a ValueError once its socket is closed, or bound again. After a wait that has ended it can be read on. It may be
+    closed at any time, and is once nobody keeps it.
     """
 
     def __init__(self, sock, handle):
@@ -513,10 +538,14 @@ class _Socket:
         self._call(self._open, list(groups))
 
     def bind(self, groups=()):
-        """Opens it again, in these groups; closes the open socket."""
+        """Opens it again, in these groups; closes the open socket.
+
+        A NetlinkError if the system refuses the socket or a group; then it is closed.
+        """
         self._call(self._open, list(groups))
 
     def close(self):
+        """Closes it; it may be closed again."""
         self._call(self._shut)
 
     def _shut(self):
@@ -594,11 +623,15 @@ class _Socket:
         return message
 
     def request(self, msg_type, msg_flags=NLM_F_ACK, body=b""):
-        """Sends a request, and returns its Reply. `body` is the header of its type, and attributes of `nla`."""
+        """Sends a request, and returns its Reply. `body` is the header of its type, and attributes of `nla`.
+
+        A NetlinkError if it is not sent; a ValueError if its type or flags do not fit 16 bits.
+        """
+        _check_u16(msg_type, msg_flags)
         return self._call(self._send, msg_type, msg_flags, bytes(body))
 
     def nlm_request(self, body, msg_type, msg_flags=NLM_F_REQUEST | NLM_F_ACK):
-        """As `request`, with the body first as in pyroute2; returns the list of its messages."""
+        """As `request`, with the body first as in pyroute2; returns the list of its messages, or raises as a Reply."""
         reply = self.request(msg_type, msg_flags, body)
         try:
             return list(reply)
@@ -619,7 +652,10 @@ class _Socket:
                     raise
 
     def get(self):
-        """The next message for a group. If some were lost, raises a NetlinkError of ENOBUFS; more messages follow."""
+        """The next message for a group. If some were lost, raises a NetlinkError of ENOBUFS; more messages follow.
+
+        A NetlinkError also if the message cannot be read, after which more follow, and if the wait has ended.
+        """
         return self._call(self._hear, self._next)
 
     def get_lent(self):
@@ -637,7 +673,11 @@ def _milliseconds(seconds):
 
 
 class NetlinkSocket(_Socket):
-    """A socket of a netlink family, in these multicast groups, which delivers each reply to its request."""
+    """A socket of a netlink family, in these multicast groups, which delivers each reply to its request.
+
+    A NetlinkError if the system refuses the socket or a group. Once it is closed, each call but `bind` and `close`
+    raises a ValueError. During a call only `stop` may be called: one that reads, sends or closes raises a RuntimeError.
+    """
 
     def _open(self, groups):
         self._shut()
@@ -654,18 +694,26 @@ class NetlinkSocket(_Socket):
         _lib.neli_host_close(at)
 
     def fileno(self):
+        """The socket's file descriptor, which stays the socket's."""
         return _lib.neli_host_fd(self._opened())
 
     @property
     def port(self):
+        """The port that the kernel chose."""
         return _lib.neli_host_port(self._opened())
 
     def settimeout(self, seconds):
-        """Sets how long a call waits in all, by default without end (None); then it raises a NetlinkError of EAGAIN."""
+        """Sets how long a call waits in all, by default without end (None); then it raises a NetlinkError of EAGAIN.
+
+        A ValueError if that is below 0.
+        """
         _lib.neli_host_set_wait(self._opened(), _milliseconds(seconds))
 
     def set_strict(self):
-        """Makes the kernel check all fields of a dump's request: only then can a dump list the objects of one link."""
+        """Makes the kernel check all fields of a dump's request: only then can a dump list the objects of one link.
+
+        A NetlinkError if the kernel is too old for it.
+        """
         self._call(self._make_strict)
 
     def _make_strict(self):
@@ -725,9 +773,13 @@ class NetlinkSocket(_Socket):
     def request_all(self, requests):
         """Sends requests, each a type, flags and a body, as one datagram, and returns the Reply to each.
 
-        The kernel performs them in their order, also past one that it refuses. A refusal to send sends none of them.
+        The kernel performs them in their order, also past one that it refuses. A refusal to send sends none of them: it
+        raises a NetlinkError, whose `status` is KIND if two of them are dumps, or a ValueError as `request` does.
         """
-        return self._call(self._send_all, [(kind, flags, bytes(body)) for kind, flags, body in requests])
+        requests = [(kind, flags, bytes(body)) for kind, flags, body in requests]
+        for kind, flags, _ in requests:
+            _check_u16(kind, flags)
+        return self._call(self._send_all, requests)
 
     def _send_all(self, requests):
         handles = (ctypes.c_size_t * max(1, len(requests)))()

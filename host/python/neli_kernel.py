@@ -104,7 +104,10 @@ def _listed(ext_ack):
 
 
 class Request(neli.Message):
-    """A request as a kernel takes it, from the socket of `port`; `error`, below 0, is as -22 for EINVAL."""
+    """A request as a kernel takes it, from the socket of `port`; `error`, below 0, is as -22 for EINVAL.
+
+    Each answer raises a ValueError if it is too long, if `ext_ack` is no list of attributes, and if memory runs out.
+    """
 
     def __init__(self, data, read):
         super().__init__(data, read.message)
@@ -129,7 +132,10 @@ class Request(neli.Message):
         return _made(_lib.neli_c_kernel_reply, ctypes.byref(self._asked), msg_type, msg_flags, body, len(body))
 
     def dump(self, listed, msg_flags=0, error=0, ext_ack=b"", limit=8192):
-        """The datagrams of a dump: its messages are {"type": .., "body": .., "flags": ..}, and the end has the rest."""
+        """The datagrams of a dump: its messages are {"type": .., "body": .., "flags": ..}, and the end has the rest.
+
+        A ValueError also if one of them is longer than `limit`.
+        """
         dump, text = _Opaque(), _listed(ext_ack)
         at = ctypes.byref(dump)
         try:
@@ -160,14 +166,18 @@ def requests(data, port):
 
 
 def notification(msg_type, body=b"", msg_flags=0, number=0, port=0):
-    """What groups get; number and port are those of the request that caused it, or 0."""
+    """What groups get; number and port are those of the request that caused it, or 0.
+
+    A ValueError if it is too long, and if memory runs out.
+    """
     return _made(_lib.neli_c_kernel_notification, msg_type, msg_flags, number, port, body, len(body))
 
 
 class SimulatedSocket(neli._Socket):
     """A socket with a kernel of your own: `serve` gives the datagrams of the answer to a Request.
 
-    It never waits, is in all groups, and has no file descriptor.
+    It never waits, is in all groups, and has no file descriptor. Where nothing is left, a read raises a NetlinkError,
+    whose `status` is WAITS. What `serve` raises, the request raises.
     """
 
     def __init__(self, serve, family=neli.NETLINK_ROUTE, port=4711):
@@ -186,10 +196,11 @@ class SimulatedSocket(neli._Socket):
         _lib.neli_c_router_free(at)
 
     def fileno(self):
+        """Raises an io.UnsupportedOperation: there is none."""
         raise io.UnsupportedOperation("a simulated socket has no file descriptor")
 
     def settimeout(self, seconds):
-        """Has no effect."""
+        """Has no effect, but for a ValueError if it is below 0."""
         self._opened()
         neli._milliseconds(seconds)
 
@@ -203,6 +214,8 @@ class SimulatedSocket(neli._Socket):
         self._is_stopped = True
 
     def request(self, msg_type, msg_flags=NLM_F_ACK, body=b""):
+        """Sends a request, which `serve` answers, and returns its Reply; refused as that of a NetlinkSocket."""
+        neli._check_u16(msg_type, msg_flags)
         reply, sent = self._call(self._send, msg_type, msg_flags, bytes(body))
         for request in requests(sent, self._port):
             for datagram in self._serve(request):
@@ -210,7 +223,7 @@ class SimulatedSocket(neli._Socket):
         return reply
 
     def request_all(self, requests):
-        """As one `request` after the other."""
+        """As one `request` after the other. A NetlinkError of the status KIND if two are dumps; then none is sent."""
         requests = [(kind, flags, bytes(body)) for kind, flags, body in requests]
         self._opened()
         if sum(self._is_dump(kind, flags) for kind, flags, _ in requests) > 1:
@@ -229,7 +242,10 @@ class SimulatedSocket(neli._Socket):
         return neli.Reply(self, sent.handle), out.raw[: sent.length]
 
     def deliver(self, datagram, group=0):
-        """Has a datagram come to a group, as `notification` makes one; or to the port, where it is 0."""
+        """Has a datagram come to a group, as `notification` makes one; or to the port, where it is 0.
+
+        A NetlinkError if memory runs out.
+        """
         self._call(self._take_in, datagram, ctypes.c_uint32(group))
 
     def _take_in(self, datagram, group):

@@ -96,7 +96,8 @@ def _done(code):
 class Schema:
     """Tables of families: those that the library has, unless `built_in` is false, and those of these texts.
 
-    It is used by one thread at a time, and is freed by `close`, or at the end of a `with`.
+    It is used by one thread at a time, and is freed by `close`, or at the end of a `with`. A TableError if a text is no
+    table. Once it is closed, and if memory runs out, a call raises a NetlinkError, whose `status` is a code of neli.h.
     """
 
     def __init__(self, *texts, built_in=True):
@@ -107,6 +108,7 @@ class Schema:
             self.add(text)
 
     def close(self):
+        """Frees the tables; it may be closed again."""
         _lib.neli_c_tables_free(ctypes.byref(self._tables))
 
     def __enter__(self):
@@ -214,6 +216,8 @@ class Schema:
     def path_at(self, message, offset):
         """The path to the attribute at an offset of a message, or None."""
         code, path = _written(_lib.neli_c_path_at, *self._words(message), offset)
+        if code not in (OK, ITEM):
+            _done(code)
         return path if code == ITEM else None
 
     def refusal(self, message, code, text="", offset=0):

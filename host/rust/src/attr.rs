@@ -33,12 +33,12 @@ pub trait Attribute: Sized {
     /// The payload.
     fn payload(&self) -> &[u8];
 
-    /// The payload as a value.
+    /// The payload as a value. Refused as [`FromBytes::from_bytes`] refuses it.
     fn get_payload_as<R: FromBytes>(&self) -> Result<R, DeError> {
         R::from_bytes(self.payload())
     }
 
-    /// The payload as a value, as of a text.
+    /// The payload as a value, as of a text. Refused as [`FromBytes::from_bytes`] refuses it.
     fn get_payload_as_with_len<R: FromBytes>(&self) -> Result<R, DeError> {
         self.get_payload_as()
     }
@@ -182,26 +182,30 @@ impl<A: Attribute> AttrHandle<'_, A> {
         self.get_attribute(number).ok_or(DeError::Missing(number.into()))
     }
 
-    /// The payload of the first attribute with this number, as a value.
+    /// The payload of the first attribute with this number, as a value. Refused as [`DeError::Missing`] if there is
+    /// none, and as [`FromBytes::from_bytes`] refuses the payload.
     pub fn get_attr_payload_as<R: FromBytes>(&self, number: A::Number) -> Result<R, DeError> {
         self.wanted(number)?.get_payload_as()
     }
 
-    /// The payload of the first attribute with this number, as a value, as of a text.
+    /// The payload of the first attribute with this number, as a value, as of a text. Refused as
+    /// [`get_attr_payload_as`](AttrHandle::get_attr_payload_as) is.
     pub fn get_attr_payload_as_with_len<R: FromBytes>(&self, number: A::Number) -> Result<R, DeError> {
         self.get_attr_payload_as(number)
     }
 }
 
 impl<T: AttrNumber> RtAttrHandle<'_, T> {
-    /// Looks up in the list in an attribute's payload.
+    /// Looks up in the list in an attribute's payload. Refused as [`DeError::Missing`] if no attribute has this number,
+    /// and as [`DeError::Refused`] at the first one of the payload that can't be read.
     pub fn get_nested_attributes<S: AttrNumber>(&self, number: T) -> Result<RtAttrHandle<'_, S>, DeError> {
         self.wanted(number)?.get_attr_handle()
     }
 }
 
 impl<T: AttrNumber> GenlAttrHandle<'_, T> {
-    /// Looks up in the list in an attribute's payload.
+    /// Looks up in the list in an attribute's payload. Refused as [`DeError::Missing`] if no attribute has this number,
+    /// and as [`DeError::Refused`] at the first one of the payload that can't be read.
     pub fn get_nested_attributes<S: AttrNumber>(&self, number: T) -> Result<GenlAttrHandle<'_, S>, DeError> {
         self.wanted(number)?.get_attr_handle()
     }
@@ -247,13 +251,14 @@ impl<T: AttrNumber> Rtattr<T> {
         &self.payload
     }
 
-    /// The attribute with another one appended to its payload.
+    /// The attribute with another one appended to its payload. Refused as [`SerError::Refused`] if the payload of that
+    /// one has more than 65531 bytes.
     pub fn nest<S: AttrNumber>(mut self, attribute: &Rtattr<S>) -> Result<Self, SerError> {
         put(&mut self.payload, attribute.field(), attribute.payload())?;
         Ok(self)
     }
 
-    /// Looks up in the list in the payload.
+    /// Looks up in the list in the payload. Refused as [`DeError::Refused`] at its first attribute that can't be read.
     pub fn get_attr_handle<S: AttrNumber>(&self) -> Result<RtAttrHandle<'_, S>, DeError> {
         handle_in(&self.payload)
     }
@@ -317,7 +322,7 @@ impl<T> AttrTypeBuilder<T> {
         self
     }
 
-    /// Returns the type, if a number was given.
+    /// Returns the type, if a number was given; else refused as [`BuildError::Uninitialized`].
     pub fn build(self) -> Result<AttrType<T>, BuildError> {
         let nla_type = self.nla_type.ok_or(UninitializedFieldError("nla_type"))?;
         Ok(AttrType { nla_nested: self.nla_nested, nla_network_order: self.nla_network_order, nla_type })
@@ -365,14 +370,15 @@ impl<T: AttrNumber> Nlattr<T> {
         &self.payload
     }
 
-    /// The attribute, marked as nested, with another one appended to its payload.
+    /// The attribute, marked as nested, with another one appended to its payload. Refused as [`SerError::Refused`] if
+    /// the payload of that one has more than 65531 bytes.
     pub fn nest<S: AttrNumber>(mut self, attribute: &Nlattr<S>) -> Result<Self, SerError> {
         put(&mut self.payload, attribute.field(), attribute.payload())?;
         self.nla_type.nla_nested = true;
         Ok(self)
     }
 
-    /// Looks up in the list in the payload.
+    /// Looks up in the list in the payload. Refused as [`DeError::Refused`] at its first attribute that can't be read.
     pub fn get_attr_handle<S: AttrNumber>(&self) -> Result<GenlAttrHandle<'_, S>, DeError> {
         handle_in(&self.payload)
     }
@@ -404,7 +410,8 @@ impl<T: AttrNumber, P: ToBytes> RtattrBuilder<T, P> {
         self
     }
 
-    /// Returns the attribute, if both were given.
+    /// Returns the attribute, if both were given; else refused as [`BuildError::Uninitialized`] with the first that was
+    /// not, and then as [`BuildError::Ser`] if the payload can't be written.
     pub fn build(self) -> Result<Rtattr<T>, BuildError> {
         let rta_type = self.rta_type.ok_or(UninitializedFieldError("rta_type"))?;
         let payload = self.rta_payload.ok_or(UninitializedFieldError("rta_payload"))?;
@@ -438,7 +445,8 @@ impl<T: AttrNumber, P: ToBytes> NlattrBuilder<T, P> {
         self
     }
 
-    /// Returns the attribute, if both were given.
+    /// Returns the attribute, if both were given; else refused as [`BuildError::Uninitialized`] with the first that was
+    /// not, and then as [`BuildError::Ser`] if the payload can't be written.
     pub fn build(self) -> Result<Nlattr<T>, BuildError> {
         let nla_type = self.nla_type.ok_or(UninitializedFieldError("nla_type"))?;
         let payload = self.nla_payload.ok_or(UninitializedFieldError("nla_payload"))?;

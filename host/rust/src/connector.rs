@@ -105,7 +105,8 @@ impl<P> CnMsgBuilder<P> {
         self
     }
 
-    /// Returns the body, if each of these was given; its numbers and flags are 0.
+    /// Returns the body, if each of these was given; its numbers and flags are 0. Else refused as
+    /// [`BuildError::Uninitialized`] with the first that was not.
     pub fn build(self) -> Result<CnMsg<P>, BuildError> {
         let idx = self.idx.ok_or(UninitializedFieldError("idx"))?;
         let val = self.val.ok_or(UninitializedFieldError("val"))?;

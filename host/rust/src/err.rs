@@ -65,7 +65,7 @@ pub enum DeError {
 /// Why something is not written.
 #[derive(Clone, Debug, PartialEq, Eq)]
 pub enum SerError {
-    /// The library refuses it: a length does not fit its field.
+    /// The library refuses it, as where a length does not fit its field.
     Refused(Refusal),
 }
 

@@ -80,7 +80,8 @@ impl<C, T> GenlmsghdrBuilder<C, T> {
         self
     }
 
-    /// Returns the body, if command and version were given.
+    /// Returns the body, if command and version were given; else refused as [`BuildError::Uninitialized`] with the
+    /// first that was not.
     pub fn build(self) -> Result<Genlmsghdr<C, T>, BuildError> {
         let cmd = self.cmd.ok_or(UninitializedFieldError("cmd"))?;
         let version = self.version.ok_or(UninitializedFieldError("version"))?;

@@ -59,12 +59,19 @@ struct Page;
 /// What is written as a payload.
 pub trait ToBytes {
     /// Appends the bytes. A refusal may leave some of them.
+    ///
+    /// Refused as [`SerError::Refused`] if a length does not fit its field: that of an attribute or of a connector's
+    /// payload has 16 bits, that of a message 32.
     fn to_bytes(&self, out: &mut Vec<u8>) -> Result<(), SerError>;
 }
 
 /// What is read from the whole of a payload.
 pub trait FromBytes: Sized {
     /// The value, or why there is none.
+    ///
+    /// Refused as [`DeError::InvalidInput`] if the bytes are not as many as a number, an array or `()` has, or fewer
+    /// than a body's header has or states; as [`DeError::Utf8`] if no zero byte ends a text, or a [`String`] is not
+    /// UTF-8; and as [`DeError::Refused`] at the first attribute that can't be read. A [`Vec`] is never refused.
     fn from_bytes(bytes: &[u8]) -> Result<Self, DeError>;
 }
 

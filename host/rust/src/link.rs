@@ -87,11 +87,15 @@ pub trait Link: fmt::Debug + Send + Sync {
     /// The port that replies come to.
     fn port(&self) -> u32;
 
-    /// Sends a datagram of one or more requests.
+    /// Sends a datagram of one or more requests. Where it is refused, a router takes these as not sent. A socket
+    /// refuses as [`SocketError::Io`], a [`Recording`](crate::recording::Recording) as [`SocketError::Unrecorded`].
     fn send(&self, datagram: &[u8]) -> Result<(), SocketError>;
 
     /// The next datagram of the kernel, at the front of `room`, which may be longer; none where nothing is there. It
     /// does not wait. A fault is reported once, in its place; what comes after it is given as before.
+    ///
+    /// A fault is refused as [`SocketError::Io`] with the system's number, or as [`SocketError::Truncated`]: a router
+    /// gives it to each open request and to listeners. Any other refusal ends only the router's call.
     fn receive(&self, room: &mut Vec<u8>) -> Result<Option<Arrived>, SocketError>;
 
     /// Waits until there may be something to be received, or [`wake`](Link::wake) was called, for this time at most, or
@@ -119,24 +123,24 @@ pub trait Link: fmt::Debug + Send + Sync {
         NlFamily::Route
     }
 
-    /// Joins a multicast group, or leaves it.
+    /// Joins a multicast group, or leaves it. Refused as [`SocketError::Io`] if the system refuses; by default never.
     fn set_membership(&self, group: u32, is_member: bool) -> Result<(), SocketError> {
         let _every_group_comes = (group, is_member);
         Ok(())
     }
 
-    /// The groups that it is in.
+    /// The groups that it is in. Refused as [`SocketError::Io`] if the system refuses; by default never.
     fn memberships(&self) -> Result<NetlinkBitArray, SocketError> {
         Ok(NetlinkBitArray::default())
     }
 
-    /// Sets an option.
+    /// Sets an option. Refused as [`SocketError::Io`] if the system refuses; by default never.
     fn set_option(&self, option: LinkOption, enable: bool) -> Result<(), SocketError> {
         let _unknown = (option, enable);
         Ok(())
     }
 
-    /// Whether an option is set.
+    /// Whether an option is set. Refused as [`SocketError::Io`] if the system refuses; by default never.
     fn option(&self, option: LinkOption) -> Result<bool, SocketError> {
         let _unknown = option;
         Ok(false)

@@ -59,7 +59,8 @@ macro_rules! body {
                 self
             }
 
-            /// Returns the body, if each field without a default was given.
+            /// Returns the body, if each field without a default was given; else refused as
+            /// [`BuildError::Uninitialized`] with the first that was not.
             pub fn build(self) -> Result<$body, BuildError> {
                 Ok($body {
                     $($field: body!(@field self.$field, stringify!($field) $(, $default)?),)*

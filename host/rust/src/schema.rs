@@ -44,7 +44,7 @@ pub enum SchemaError {
         /// Why, in words.
         reason: String,
     },
-    /// The library refuses: memory ran out.
+    /// The library refuses, as where memory ran out.
     Refused(Refusal),
 }
 
@@ -123,12 +123,13 @@ fn written(mut call: impl FnMut(&mut [u8], &mut usize) -> i32) -> (i32, String) 
 }
 
 impl Schema {
-    /// The tables of all families that the library has.
+    /// The tables of all families that the library has. Refused as [`SchemaError::Refused`] if memory runs out, or a
+    /// text that is built in can't be read.
     pub fn built_in() -> Result<Schema, SchemaError> {
         Ok(Schema(Mutex::new(Tables::built_in().map_err(refused)?)))
     }
 
-    /// No tables.
+    /// No tables. Refused as [`SchemaError::Refused`] if memory runs out.
     pub fn empty() -> Result<Schema, SchemaError> {
         Ok(Schema(Mutex::new(Tables::new().map_err(refused)?)))
     }
@@ -137,7 +138,8 @@ impl Schema {
         self.0.lock().unwrap_or_else(PoisonError::into_inner)
     }
 
-    /// Adds the table of a family behind the others, from its text (`docs/TABLES.md`).
+    /// Adds the table of a family behind the others, from its text (`docs/TABLES.md`). Refused as [`SchemaError::Line`]
+    /// at the first bad line, and as [`SchemaError::Refused`] if memory runs out; then nothing is added.
     ///
     /// ```
     /// use neli::schema::{Schema, SchemaError};
@@ -160,7 +162,8 @@ impl Schema {
     }
 
     /// Learns that the family of generic netlink with this name has this number, as
-    /// [`resolve_genl_family`](crate::router::synchronous::NlRouter::resolve_genl_family) returns it.
+    /// [`resolve_genl_family`](crate::router::synchronous::NlRouter::resolve_genl_family) returns it. Refused as
+    /// [`SchemaError::Refused`] if memory runs out; then nothing is learnt.
     pub fn learn(&self, id: u16, name: &str) -> Result<(), SchemaError> {
         Ok(done(self.tables().learn(id, name.as_bytes()))?)
     }
@@ -171,18 +174,20 @@ impl Schema {
         Messages { schema: self, protocol: protocol_of(family), datagram, walk }
     }
 
-    /// The first message of these bytes, as those of an [`Nlmsghdr`](crate::nl::Nlmsghdr) are one.
+    /// The first message of these bytes, as those of an [`Nlmsghdr`](crate::nl::Nlmsghdr) are one. Refused as
+    /// [`DeError::Refused`] if they do not begin with a message.
     pub fn message<'s>(&'s self, family: NlFamily, bytes: &'s [u8]) -> Result<Message<'s>, DeError> {
         self.messages(family, bytes).next().unwrap_or(Err(Refusal::SHORT.into()))
     }
 
-    /// The messages of a datagram as lines of JSON, and one more for the fault behind them, if there is one.
+    /// The messages of a datagram as lines of JSON, and one more for the fault behind them, if there is one. Refused
+    /// only as [`Refusal::LENGTH`] if these have more bytes than a `usize` counts.
     pub fn datagram_json(&self, family: NlFamily, datagram: &[u8]) -> Result<String, Refusal> {
         let mut tables = self.tables();
         whole(written(|out, size| tables.datagram_json(protocol_of(family), datagram, out, size)))
     }
 
-    /// The same as lines of text.
+    /// The same as lines of text. Refused as [`datagram_json`](Schema::datagram_json) is.
     pub fn datagram_text(&self, family: NlFamily, datagram: &[u8]) -> Result<String, Refusal> {
         let mut tables = self.tables();
         whole(written(|out, size| tables.datagram_text(protocol_of(family), datagram, out, size)))
@@ -241,20 +246,20 @@ impl<'s> Message<'s> {
         self.sought.message.kind
     }
 
-    /// As one object of JSON.
+    /// As one object of JSON. Refused as [`Schema::datagram_json`] is.
     pub fn to_json(&self) -> Result<String, Refusal> {
         let mut tables = self.schema.tables();
         whole(written(|out, size| tables.message_json(&self.sought, out, size)))
     }
 
-    /// As lines of text.
+    /// As lines of text. Refused as [`Schema::datagram_json`] is.
     pub fn to_text(&self) -> Result<String, Refusal> {
         let mut tables = self.schema.tables();
         whole(written(|out, size| tables.message_text(&self.sought, out, size)))
     }
 
-    /// Checks that its attributes are as their rows say, as those of a request before it is sent. What has no row
-    /// passes.
+    /// Checks that its attributes are as their rows say, as those of a request before it is sent. Refused as
+    /// [`Violation`] at the first that is not. What has no row passes.
     pub fn check(&self) -> Result<(), Violation> {
         let mut tables = self.schema.tables();
         match written(|out, size| tables.check(&self.sought, out, size)) {
@@ -300,7 +305,7 @@ impl<'s> Message<'s> {
     }
 
     /// Its attributes by name, those in a nest behind the nest. There are none where no table knows the message. It is
-    /// walked once, so that the time grows with its length.
+    /// walked once, so that the time grows with its length. Refused as [`Schema::datagram_json`] is, for their texts.
     pub fn attributes(&self) -> Result<Attributes<'s>, Refusal> {
         let (mut items, mut text) = (vec![Named::default(); 64], vec![0; 4096]);
         let (mut count, mut size) = (0, 0);
@@ -323,7 +328,7 @@ impl<'s> Message<'s> {
     }
 
     /// Learns the number of the family of generic netlink that this message of the controller names; of any other
-    /// nothing.
+    /// nothing. Refused only if memory runs out; then nothing is learnt.
     pub fn learn(&self) -> Result<(), Refusal> {
         done(self.schema.tables().learn_from(&self.sought))
     }

@@ -72,7 +72,9 @@ fn bytes_of(value: &impl ToBytes) -> Result<Vec<u8>, SerError> {
 /// A request as a kernel takes it: who sent it, its header, and its payload.
 ///
 /// The attributes of an extended acknowledgement are a [`GenlBuffer`](crate::types::GenlBuffer), or `&()` for none. The
-/// code of an error is below 0, as -22 for `EINVAL`. Each answer is refused where its length passes 32 bits.
+/// code of an error is below 0, as -22 for `EINVAL`. Each answer is refused as [`SerError::Refused`] where its length
+/// passes 32 bits, where `ext_ack` or the body can't be written, where `ext_ack` is no list of attributes, and where
+/// memory runs out.
 #[derive(Clone, Copy, Debug)]
 pub struct Request<'b> {
     sent: &'b [u8],
@@ -106,7 +108,7 @@ impl<'b> Request<'b> {
         self.sent.get(at..at + self.raw.message.payload_length).unwrap_or_default()
     }
 
-    /// Its payload as a body.
+    /// Its payload as a body. Refused as [`FromBytes::from_bytes`] refuses it.
     pub fn body<P: FromBytes>(&self) -> Result<P, DeError> {
         P::from_bytes(self.payload())
     }
@@ -136,32 +138,33 @@ impl<'b> Request<'b> {
         self.raw.wants_echo != 0
     }
 
-    /// The acknowledgement: code 0, and the request's header.
+    /// The acknowledgement: code 0, and the request's header. Refused as each answer is.
     pub fn acknowledgement(&self, ext_ack: &impl ToBytes) -> Result<Vec<u8>, SerError> {
         let list = bytes_of(ext_ack)?;
         made(|out, length| kernel::ack(&self.raw, &list, out, length))
     }
 
-    /// The error with this code and the request's header alone, as for a socket with `NETLINK_CAP_ACK`.
+    /// The error with this code and the request's header alone, as for a socket with `NETLINK_CAP_ACK`. Refused as each
+    /// answer is.
     pub fn capped_error(&self, code: i32, ext_ack: &impl ToBytes) -> Result<Vec<u8>, SerError> {
         let list = bytes_of(ext_ack)?;
         made(|out, length| kernel::capped_error(&self.raw, code, &list, out, length))
     }
 
-    /// The error with this code and the request whole.
+    /// The error with this code and the request whole. Refused as each answer is.
     pub fn error(&self, code: i32, ext_ack: &impl ToBytes) -> Result<Vec<u8>, SerError> {
         let list = bytes_of(ext_ack)?;
         made(|out, length| kernel::error(self.sent, &self.raw, code, &list, out, length))
     }
 
-    /// One reply.
+    /// One reply. Refused as each answer is.
     pub fn reply<T: NlType>(&self, nl_type: T, flags: NlmF, body: &impl ToBytes) -> Result<Vec<u8>, SerError> {
         let body = bytes_of(body)?;
         let head = head_of(nl_type, flags, 0, 0);
         made(|out, length| kernel::reply(&self.raw, &head, &body, out, length))
     }
 
-    /// An answer in several messages, in datagrams of at most `limit` bytes.
+    /// An answer in several messages, in datagrams of at most `limit` bytes. Refused only if memory runs out.
     pub fn dump(&self, limit: usize) -> Result<Dump, SerError> {
         Ok(Dump(kernel::Dump::new(&self.raw, limit).map_err(refused)?))
     }
@@ -171,7 +174,8 @@ fn head_of<T: NlType>(nl_type: T, flags: NlmF, number: u32, port: u32) -> ffi::M
     ffi::Message { kind: nl_type.into(), flags: flags.bits(), number, port, ..ffi::Message::default() }
 }
 
-/// What groups get: number and port are those of the request that caused it, or 0.
+/// What groups get: number and port are those of the request that caused it, or 0. Refused as each answer of a
+/// [`Request`] is.
 pub fn notification<T: NlType>(
     nl_type: T,
     flags: NlmF,
@@ -191,22 +195,25 @@ pub fn notification<T: NlType>(
 pub struct Dump(kernel::Dump);
 
 impl Dump {
-    /// One message more, with these flags, as DUMP_INTR, and MULTI.
+    /// One message more, with these flags, as DUMP_INTR, and MULTI. Refused as [`SerError::Refused`] where it is too
+    /// long, where the body can't be written, and where memory runs out.
     pub fn push<T: NlType>(&mut self, nl_type: T, flags: NlmF, body: &impl ToBytes) -> Result<(), SerError> {
         Ok(done(self.0.push(nl_type.into(), flags.bits(), &bytes_of(body)?))?)
     }
 
-    /// One message more, with these flags alone: some families, as `netdev`, leave MULTI out.
+    /// One message more, with these flags alone: some families, as `netdev`, leave MULTI out. Refused as
+    /// [`push`](Dump::push) is.
     pub fn push_reply<T: NlType>(&mut self, nl_type: T, flags: NlmF, body: &impl ToBytes) -> Result<(), SerError> {
         Ok(done(self.0.push_reply(nl_type.into(), flags.bits(), &bytes_of(body)?))?)
     }
 
-    /// Has the next message begin a datagram.
+    /// Has the next message begin a datagram. Refused only if memory runs out.
     pub fn begin_datagram(&mut self) -> Result<(), SerError> {
         Ok(done(self.0.begin_datagram())?)
     }
 
-    /// The datagrams, with the end as the last message: its code is 0, or below where the dump failed.
+    /// The datagrams, with the end as the last message: its code is 0, or below where the dump failed. Refused as
+    /// [`push`](Dump::push) is, and where `ext_ack` is no list of attributes.
     pub fn finish(mut self, flags: NlmF, code: i32, ext_ack: &impl ToBytes) -> Result<Vec<Vec<u8>>, SerError> {
         done(self.0.finish(flags.bits(), code, &bytes_of(ext_ack)?))?;
         let mut datagrams = Vec::new();
@@ -308,7 +315,8 @@ impl<F: FnMut(&Request<'_>) -> Result<Vec<Vec<u8>>, SerError>> Kernel<F> {
         Kernel { port, inner: Mutex::new(Inner { serve, waiting: VecDeque::new() }) }
     }
 
-    /// Serves each request of a datagram that the socket sent, in order.
+    /// Serves each request of a datagram that the socket sent, in order. Refused as [`SocketError::De`] at bytes that
+    /// are no message, and as [`SocketError::Ser`] where the function refuses; the requests before are served then.
     pub fn send(&self, sent: &[u8]) -> Result<(), SocketError> {
         let mut inner = self.inner();
         for request in requests(sent, self.port) {

@@ -105,6 +105,9 @@ pub mod synchronous {
 
     impl NlSocketHandle {
         /// A socket of a family, bound to this port, or to one that the kernel chooses, and in these groups.
+        ///
+        /// Refused as [`SocketError::Io`], as with `EPROTONOSUPPORT` if the kernel has no such family and `EADDRINUSE`
+        /// if another socket has the port; then as [`add_mcast_membership`](NlSocketHandle::add_mcast_membership) is.
         pub fn connect(family: NlFamily, port: Option<u32>, groups: Groups) -> Result<Self, SocketError> {
             let fd = ffi::open(family.into(), port.unwrap_or(0))?;
             let port = ffi::port_of(fd.as_raw_fd())?;
@@ -122,11 +125,15 @@ pub mod synchronous {
         }
 
         /// Joins these groups. Where one is refused, those before it are joined.
+        ///
+        /// Refused as [`SocketError::Io`], with `EINVAL` if the family has fewer groups, and with `EPERM` where only a
+        /// privileged process may join.
         pub fn add_mcast_membership(&self, groups: Groups) -> Result<(), SocketError> {
             self.set_groups(ADD_MEMBERSHIP, &groups)
         }
 
-        /// Leaves these groups.
+        /// Leaves these groups. Refused as [`add_mcast_membership`](NlSocketHandle::add_mcast_membership) is; those
+        /// before it are left then.
         pub fn drop_mcast_membership(&self, groups: Groups) -> Result<(), SocketError> {
             self.set_groups(DROP_MEMBERSHIP, &groups)
         }
@@ -136,39 +143,43 @@ pub mod synchronous {
             Ok(groups.as_groups().iter().try_for_each(set)?)
         }
 
-        /// The groups that the socket is in.
+        /// The groups that the socket is in. Refused as [`SocketError::Io`], with `ENOPROTOOPT` where the kernel is too
+        /// old to list them.
         pub fn list_mcast_membership(&self) -> Result<NetlinkBitArray, SocketError> {
             Ok(NetlinkBitArray::of_words(ffi::memberships(self.as_raw_fd())?))
         }
 
-        /// Whether the kernel is to say in words why it refuses, and where. It is on at first.
+        /// Whether the kernel is to say in words why it refuses, and where. It is on at first. Refused as
+        /// [`SocketError::Io`], with `ENOPROTOOPT` where the kernel is too old for it.
         pub fn enable_ext_ack(&self, enable: bool) -> Result<(), SocketError> {
             self.set_option(LinkOption::ExtAck, enable)
         }
 
-        /// Whether the kernel says so.
+        /// Whether the kernel says so. Refused as [`enable_ext_ack`](NlSocketHandle::enable_ext_ack) is.
         pub fn get_ext_ack_enabled(&self) -> Result<bool, SocketError> {
             self.option(LinkOption::ExtAck)
         }
 
-        /// Whether the kernel is to refuse a dump's request with fields that it does not use.
+        /// Whether the kernel is to refuse a dump's request with fields that it does not use. Refused as
+        /// [`enable_ext_ack`](NlSocketHandle::enable_ext_ack) is.
         pub fn enable_strict_checking(&self, enable: bool) -> Result<(), SocketError> {
             self.set_option(LinkOption::StrictChecking, enable)
         }
 
-        /// Whether the kernel does so.
+        /// Whether the kernel does so. Refused as [`enable_ext_ack`](NlSocketHandle::enable_ext_ack) is.
         pub fn get_strict_checking_enabled(&self) -> Result<bool, SocketError> {
             self.option(LinkOption::StrictChecking)
         }
 
         /// Sets the size of the buffer in which the kernel keeps what was not received yet. It doubles the number.
+        /// Refused as [`SocketError::Io`] if the system refuses.
         pub fn set_recv_buffer_size(&self, size: usize) -> Result<(), SocketError> {
             let size = c_int::try_from(size).unwrap_or(c_int::MAX);
             Ok(ffi::set_option(self.as_raw_fd(), SOL_SOCKET, SO_RCVBUF, size)?)
         }
 
         /// How long a call waits, from its beginning on, before it is refused as `WouldBlock`; without end for none. A
-        /// wait that has begun keeps its time.
+        /// wait that has begun keeps its time. This call is never refused.
         pub fn set_recv_timeout(&self, timeout: Option<Duration>) -> Result<(), SocketError> {
             self.waits().timeout = timeout;
             Ok(())
@@ -214,17 +225,21 @@ pub mod synchronous {
             }
         }
 
-        /// Sends a message to the kernel, as it is.
+        /// Sends a message to the kernel, as it is. Refused as [`SocketError::Ser`] if it can't be written, and as
+        /// [`send_bytes`](NlSocketHandle::send_bytes) is.
         pub fn send<T: NlType, P: ToBytes>(&self, message: &Nlmsghdr<T, P>) -> Result<(), SocketError> {
             self.send_bytes(&message.to_message()?)
         }
 
-        /// Sends a datagram to the kernel.
+        /// Sends a datagram to the kernel. Refused as [`SocketError::Io`], with `EMSGSIZE` if it is longer than the
+        /// socket's buffer for sending.
         pub fn send_bytes(&self, datagram: &[u8]) -> Result<(), SocketError> {
             self.send_bytes_to(datagram, KERNEL)
         }
 
-        /// Sends a datagram to the socket that is bound to this port, in the same network namespace.
+        /// Sends a datagram to the socket that is bound to this port, in the same network namespace. Refused as
+        /// [`send_bytes`](NlSocketHandle::send_bytes) is, with `ECONNREFUSED` if there is no such socket, and with
+        /// `EPERM` where only a privileged process may send to others than the kernel.
         pub fn send_bytes_to(&self, datagram: &[u8], port: u32) -> Result<(), SocketError> {
             loop {
                 match ffi::send(self.as_raw_fd(), datagram, port) {
@@ -234,14 +249,17 @@ pub mod synchronous {
             }
         }
 
-        /// The messages of the next datagram, and the groups that it came to.
+        /// The messages of the next datagram, and the groups that it came to. Refused as
+        /// [`recv_bytes`](NlSocketHandle::recv_bytes) is.
         pub fn recv<T: NlType, P: FromBytes>(&self) -> Result<(NlBufferIter<T, P>, Groups), SocketError> {
             let mut room = Vec::new();
             let groups = self.recv_bytes(&mut room)?;
             Ok((NlBufferIter::new(room), groups))
         }
 
-        /// All messages of the next datagram, and the groups that it came to.
+        /// All messages of the next datagram, and the groups that it came to. Refused as
+        /// [`recv_bytes`](NlSocketHandle::recv_bytes) is, and as [`SocketError::De`] at the first message that can't be
+        /// read; then the datagram is lost.
         pub fn recv_all<T, P>(&self) -> Result<(Vec<Nlmsghdr<T, P>>, Groups), SocketError>
         where
             T: NlType,
@@ -253,6 +271,9 @@ pub mod synchronous {
 
         /// The next datagram, whole, in place of what `room` held; and the groups that it came to. Refused as
         /// `Truncated` where it has more than a mebibyte; then it is lost, and the next one may be as long.
+        ///
+        /// Refused also as [`SocketError::Io`]: where the wait has ended, and with the system's number, as `ENOBUFS`
+        /// where the socket's buffer ran over and datagrams are lost.
         pub fn recv_bytes(&self, room: &mut Vec<u8>) -> Result<Groups, SocketError> {
             let wait = Wait::begin(self.limit());
             loop {
@@ -268,7 +289,8 @@ pub mod synchronous {
         }
 
         /// The next datagram, into these bytes, as its length, and the groups that it came to. Refused as `Truncated`
-        /// where it is longer; then it is lost.
+        /// where it is longer; then it is lost. Refused as [`SocketError::Io`] as
+        /// [`recv_bytes`](NlSocketHandle::recv_bytes) is.
         pub fn recv_into(&self, room: &mut [u8]) -> Result<(usize, Groups), SocketError> {
             let wait = Wait::begin(self.limit());
             loop {

@@ -133,7 +133,8 @@ fn way_of(cooked: &[u8; COOKED], datagram: &[u8], asked: &HashSet<u32>) -> Way {
 impl Recording {
     /// What a pcap file has of this family of netlink.
     ///
-    /// Both byte orders are read, and times with microseconds or nanoseconds.
+    /// Both byte orders are read, and times with microseconds or nanoseconds. Refused as [`PcapError`] says, at the
+    /// first frame that can't be read, of whatever family.
     pub fn from_pcap(file: &[u8], family: NlFamily) -> Result<Self, PcapError> {
         let form = Form::of(file).ok_or(PcapError::Header)?;
         let link_type = form.number(file, 20).ok_or(PcapError::Header)?;
@@ -167,6 +168,9 @@ impl Recording {
     }
 
     /// Writes it as a pcap file, without its faults. Its times are in microseconds.
+    ///
+    /// Refused as `out` refuses the bytes, and as [`io::ErrorKind::Other`] if a frame's length exceeds 32 bits; what
+    /// comes before is written then.
     pub fn write_pcap(&self, out: &mut impl Write) -> io::Result<()> {
         out.write_all(&MICROSECONDS.to_le_bytes())?;
         out.write_all(&[2, 0, 4, 0, 0, 0, 0, 0, 0, 0, 0, 0])?;

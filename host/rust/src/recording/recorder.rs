@@ -11,7 +11,7 @@ use std::time::Duration;
 /// `EMSGSIZE` of `errno.h`, as which a datagram is kept that was longer than its room.
 const CUT: i32 = 90;
 
-/// A link that keeps what passes over another one, in its order.
+/// A link that keeps what passes over another one, in its order, and refuses what that refuses.
 ///
 /// ```
 /// use neli::consts::socket::NlFamily;

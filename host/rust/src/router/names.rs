@@ -40,6 +40,10 @@ impl<L: Link + 'static> NlRouter<L> {
     }
 
     /// The number of a family of generic netlink.
+    ///
+    /// Refused as [`RouterError::Nlmsgerr`] by the kernel, with `ENOENT` if it has no such family; as
+    /// [`RouterError::Msg`] if no reply has its number; and as [`NlRouter::send`] and
+    /// [`NlRouterReceiverHandle::next_typed`] are.
     pub fn resolve_genl_family(&self, family: &str) -> Result<u16, RouterError> {
         let bodies = self.get_genl_family(family)?;
         let id = |body: &Controller| body.attrs().get_attr_handle().get_attr_payload_as(CtrlAttr::FamilyId).ok();
@@ -47,6 +51,9 @@ impl<L: Link + 'static> NlRouter<L> {
     }
 
     /// The number of a multicast group of a family of generic netlink.
+    ///
+    /// Refused as [`list_nl_mcast_groups`](NlRouter::list_nl_mcast_groups) is, and as [`RouterError::Msg`] if the
+    /// family has no such group.
     pub fn resolve_nl_mcast_group(&self, family: &str, group: &str) -> Result<u32, RouterError> {
         for body in self.get_genl_family(family)? {
             for (name, id) in groups_of(&body)? {
@@ -59,6 +66,10 @@ impl<L: Link + 'static> NlRouter<L> {
     }
 
     /// The multicast groups of a family of generic netlink, by name and number.
+    ///
+    /// Refused as [`RouterError::Nlmsgerr`] by the kernel, with `ENOENT` if it has no such family; as
+    /// [`RouterError::De`] if a reply's groups can't be read; and as [`NlRouter::send`] and
+    /// [`NlRouterReceiverHandle::next_typed`] are.
     pub fn list_nl_mcast_groups(&self, family: &str) -> Result<Vec<(String, u32)>, RouterError> {
         let mut groups = Vec::new();
         for body in self.get_genl_family(family)? {
@@ -68,6 +79,10 @@ impl<L: Link + 'static> NlRouter<L> {
     }
 
     /// The names of the family and the group of generic netlink for this number of a group.
+    ///
+    /// Refused as [`RouterError::Msg`] if no group has it, or the list that lacks it is not complete; as
+    /// [`RouterError::De`] if a family's name or its groups can't be read; and as [`NlRouter::send`] and
+    /// [`NlRouterReceiverHandle::next_typed`] are.
     pub fn lookup_id(&self, id: u32) -> Result<(String, String), RouterError> {
         let mut found = None;
         let mut replies = self.ask_controller(NlmF::DUMP, GenlBuffer::new())?;

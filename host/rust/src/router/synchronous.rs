@@ -21,7 +21,8 @@ use crate::{FromBytes, ToBytes};
 use std::marker::PhantomData;
 use std::sync::{Arc, Condvar};
 
-/// A router over a link of its own, by default a socket. Handles can outlive it.
+/// A router over a link of its own, by default a socket. Handles can outlive it. What the link refuses is refused as
+/// [`RouterError::Socket`] with its error.
 #[derive(Debug)]
 pub struct NlRouter<L = NlSocketHandle> {
     shared: Arc<Shared>,
@@ -36,7 +37,8 @@ impl<L> Clone for NlRouter<L> {
 }
 
 impl NlRouter {
-    /// A router over a new socket in these groups, and the handle of multicast.
+    /// A router over a new socket in these groups, and the handle of multicast. Refused as
+    /// [`NlSocketHandle::connect`] is, and as [`RouterError::Memory`] if memory runs out.
     pub fn connect(
         family: NlFamily,
         port: Option<u32>,
@@ -52,7 +54,8 @@ impl NlRouter {
 }
 
 impl<L: Link + 'static> NlRouter<L> {
-    /// A router over a link, from which nothing else may receive, and the handle of multicast.
+    /// A router over a link, from which nothing else may receive, and the handle of multicast. Refused only as
+    /// [`RouterError::Memory`] if memory runs out.
     ///
     /// The link is a socket, a [`Recorder`](crate::recording::Recorder), a
     /// [`Recording`](crate::recording::Recording), or one of the caller's own. A client that takes any of them takes
@@ -106,37 +109,40 @@ impl<L: Link + 'static> NlRouter<L> {
         self.link.port()
     }
 
-    /// Joins these groups. If one is refused, those before it are joined.
+    /// Joins these groups. If the link refuses one, as [`NlSocketHandle::add_mcast_membership`] does, those before it
+    /// are joined.
     pub fn add_mcast_membership(&self, groups: Groups) -> Result<(), RouterError> {
         Ok(groups.as_groups().iter().try_for_each(|it| self.link.set_membership(*it, true))?)
     }
 
-    /// Leaves these groups.
+    /// Leaves these groups. If the link refuses one, those before it are left.
     pub fn drop_mcast_membership(&self, groups: Groups) -> Result<(), RouterError> {
         Ok(groups.as_groups().iter().try_for_each(|it| self.link.set_membership(*it, false))?)
     }
 
-    /// The groups that the link is in.
+    /// The groups that the link is in. Refused if the link refuses.
     pub fn list_mcast_membership(&self) -> Result<NetlinkBitArray, RouterError> {
         Ok(self.link.memberships()?)
     }
 
-    /// Sets whether the kernel states in words why it refuses, and where. By default it does.
+    /// Sets whether the kernel states in words why it refuses, and where. By default it does. Refused if the link
+    /// refuses, as [`NlSocketHandle::enable_ext_ack`] does.
     pub fn enable_ext_ack(&self, enable: bool) -> Result<(), RouterError> {
         Ok(self.link.set_option(LinkOption::ExtAck, enable)?)
     }
 
-    /// Whether the kernel states that.
+    /// Whether the kernel states that. Refused if the link refuses.
     pub fn get_ext_ack_enabled(&self) -> Result<bool, RouterError> {
         Ok(self.link.option(LinkOption::ExtAck)?)
     }
 
-    /// Sets whether the kernel refuses a dump's request with fields that it does not use.
+    /// Sets whether the kernel refuses a dump's request with fields that it does not use. Refused if the link refuses,
+    /// as [`NlSocketHandle::enable_strict_checking`] does.
     pub fn enable_strict_checking(&self, enable: bool) -> Result<(), RouterError> {
         Ok(self.link.set_option(LinkOption::StrictChecking, enable)?)
     }
 
-    /// Whether the kernel does so.
+    /// Whether the kernel does so. Refused if the link refuses.
     pub fn get_strict_checking_enabled(&self) -> Result<bool, RouterError> {
         Ok(self.link.option(LinkOption::StrictChecking)?)
     }
@@ -155,6 +161,10 @@ impl<L: Link + 'static> NlRouter<L> {
     /// Sends a request, and returns the handle of its replies.
     ///
     /// A dump is sent when the one before has ended, whose replies wait at their handle.
+    ///
+    /// Refused as [`RouterError::Ser`] if the body can't be written or the length exceeds 32 bits, as
+    /// [`RouterError::SeqInUse`] if an answer with its number may still arrive, as [`RouterError::Memory`] if memory
+    /// runs out, and if the link refuses.
     pub fn send<ST, SP, RT, RP>(
         &self,
         nl_type: ST,
@@ -174,7 +184,7 @@ impl<L: Link + 'static> NlRouter<L> {
     /// answers it, and goes on with the next.
     ///
     /// A refusal sends none of them. One of them at most may be a dump, since the kernel runs one at a time; two are
-    /// refused as `Msg`.
+    /// refused as `Msg`. Else it is refused as [`send`](NlRouter::send) is.
     pub fn send_all<ST, SP, RT, RP>(
         &self,
         requests: impl IntoIterator<Item = (ST, NlmF, NlPayload<ST, SP>)>,
@@ -246,7 +256,7 @@ enum Of {
 }
 
 /// The handle of the replies to one request, of multicast, or of messages without a request. As an iterator it returns
-/// the replies up to the last; each step waits.
+/// the replies up to the last, by [`next_typed`](NlRouterReceiverHandle::next_typed); each step waits.
 ///
 /// It may be dropped at any time. Messages that still arrive for its request are then dropped.
 #[derive(Debug)]
@@ -268,8 +278,13 @@ impl<T, P> NlRouterReceiverHandle<T, P> {
         NlRouterReceiverHandle { shared, handle, whose, bell, is_stopped: false, spoilt: None, of: PhantomData }
     }
 
-    /// The next reply, read as these types; none after the last. A request that the kernel refuses is an error.
-    /// Multicast has no last message.
+    /// The next reply, read as these types; none after the last. A request that the kernel refuses is an error, a
+    /// [`RouterError::Nlmsgerr`]. Multicast has no last message.
+    ///
+    /// Other errors in a reply's place are [`RouterError::Socket`] if something was lost, [`RouterError::De`] if it
+    /// can't be read, [`RouterError::NoAck`] and [`RouterError::UnexpectedAck`]. Refused also as
+    /// [`RouterError::Socket`] if the wait has ended, and as [`RouterError::Memory`] if memory runs out; then no reply
+    /// is lost.
     pub fn next_typed<TT: NlType, PP: FromBytes>(&mut self) -> Option<Result<Nlmsghdr<TT, PP>, RouterError>> {
         if self.is_stopped {
             return None;
@@ -339,7 +354,7 @@ impl<T, P> NlRouterReceiverHandle<T, P> {
     /// to the state.
     ///
     /// The dump is repeated as by [`NlRouter::dump`], at most so many times; then the last error is returned. Refused
-    /// as `ClosedChannel` if the handle is not that of multicast.
+    /// as `ClosedChannel` if the handle is not that of multicast, as `Socket` if the link is gone, and else as that is.
     pub fn resync<ST, SP, RT, RP>(
         &mut self,
         nl_type: ST,
