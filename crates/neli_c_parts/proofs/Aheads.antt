@@ -238,15 +238,16 @@ once-more (suc n) h g k s t u times passes =
 -- ---- passes where nothing comes next
 
 module _ (h : HandleState) (s : Session) where
+  -- where an open handle has a list, and it is empty, a pass changes nothing
   stays-where : (h.ended ≡ false → pending s h.number ≡ None → ⊥)
       → (h.ended ≡ false → (d : Delivery) (ds : List Delivery) → pending s h.number ≡ Some (d ∷ ds) → ⊥)
       → PassesHandle h h s s
-  stays-where closed comes = (
+  stays-where listed empty = (
     λ _. (refl, refl),
-    λ open_ none. absurd (closed open_ none),
+    λ open_ none. absurd (listed open_ none),
     λ _ none. (refl, refl),
-    λ open_ d ds some. absurd (comes open_ d ds some),
-    λ open_ d ds some. absurd (comes open_ d ds some),
+    λ open_ d ds some. absurd (empty open_ d ds some),
+    λ open_ d ds some. absurd (empty open_ d ds some),
     λ w other. refl,
     λ w other. refl,
     refl,
@@ -256,11 +257,13 @@ module _ (h : HandleState) (s : Session) where
 
   stays-ended : h.ended ≡ true → PassesHandle h h s s
   stays-ended ended =
-      stays-where (λ open_ none. (let f = sym ended ∙ open_ in cc)) (λ open_ d ds some. (let f = sym ended ∙ open_ in cc))
+      stays-where (λ open_ none. (let f = sym ended ∙ open_ in cc))
+      (λ open_ d ds some. (let f = sym ended ∙ open_ in cc))
 
   stays-empty : pending s h.number ≡ Some [] → PassesHandle h h s s
   stays-empty empty =
-      stays-where (λ open_ none. (let f = sym none ∙ empty in cc)) (λ open_ d ds some. (let f = sym some ∙ empty in cc))
+      stays-where (λ open_ none. (let f = sym none ∙ empty in cc))
+      (λ open_ d ds some. (let f = sym some ∙ empty in cc))
 
   no-rest : (r : LentReply) (i : Item ℕ (List ℕ)) → is_rest r ≡ true → IsLentReply i r → PassesHandle h h s s
   no-rest (reply.Item l) i rest lends = absurd cc

@@ -186,6 +186,7 @@ positions_count n (e ∷ es) = elim (true_or_false (is_shared e.route)) [
   | inr it ↦ rw it (positions_count (suc n) es)
 ]
 
+-- each shared entry has a position
 pub shared_length : {T : Type 0} (base : ℕ) (es : List (Entry T)) (shared : List Shared)
     → map (λ s. s.at) shared ≡ shared_positions base es → length shared ≡ shared_count es
 shared_length base es shared are = sym (length-map shared (λ s. s.at)) ∙ (ap length are ∙ positions_count base es)

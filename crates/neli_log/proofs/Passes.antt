@@ -186,6 +186,7 @@ module _ {T : Type 0} (w : Option ℕ) (base : ℕ) (es : List (Entry T)) (links
       let b = count_one i (drop (p.from - base) es) e n.here.at it (before_unshared q is) in
       rw behind (omega (arith, a, b))
 
+  -- a place before a shared entry has not passed all of them
   pub passed_less : (q shared_base : ℕ) → w ≡ Some q → is_shared e.route ≡ true → CountsPassed shared_base base es p
       → p.shared_passed < shared_base + shared_count es
   passed_less q shared_base is it seen =

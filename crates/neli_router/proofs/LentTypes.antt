@@ -2,7 +2,6 @@
 use Rattle.std.proofs.Common.{◌≡◌, ℕ, ℤ, Bool, true, false, ◌<◌, ◌^◌, List, Result, Ok, Err, refl, sym, ap, subst, ◌∙◌}
 use Rattle.std.specs.Prelude.{◌==◌, bit_and, if◌then◌else◌}
 use Rattle.neli_wire.specs.declared.errors.DeError.{DeError}
-use Rattle.neli_wire.specs.Reading.{◌>>=◌}
 use Rattle.neli_wire.specs.laws.Reading.{bind_ok, ok_is}
 use Rattle.neli_reader.specs.Framed.{Nlmsghdr, NlmsghdrErr}
 use Rattle.neli_reader.specs.Headers.{Header}
@@ -103,50 +102,51 @@ module _ {K P V : Type 0} (type_of : ℕ → K) (view : P → V) (size : P → �
   same_form len payload.Empty (payload.DumpExtAck b) is = absurd cc
   same_form len payload.Empty payload.Empty is = tt
 
-  same_both : (len : ℕ) (p : NlPayload ℕ (List ℕ)) (q : NlPayload K P) → SameForm len p q
+  -- both are answers or neither is, and their codes are the same
+  same_end : (len : ℕ) (p : NlPayload ℕ (List ℕ)) (q : NlPayload K P) → SameForm len p q
       → (is_answer p ≡ is_answer q) × (end_code p ≡ end_code q)
-  same_both len (payload.Payload a) (payload.Payload b) is = (refl, refl)
-  same_both len (payload.Payload a) (payload.Err b) is = absurd is
-  same_both len (payload.Payload a) (payload.Ack b) is = absurd is
-  same_both len (payload.Payload a) (payload.Capped b) is = absurd is
-  same_both len (payload.Payload a) (payload.DumpExtAck b) is = absurd is
-  same_both len (payload.Payload a) payload.Empty is = absurd is
-  same_both len (payload.Err a) (payload.Payload b) is = absurd is
-  same_both len (payload.Err a) (payload.Err b) is = (refl, refl)
-  same_both len (payload.Err a) (payload.Ack b) is = absurd is
-  same_both len (payload.Err a) (payload.Capped b) is = absurd is
-  same_both len (payload.Err a) (payload.DumpExtAck b) is = absurd is
-  same_both len (payload.Err a) payload.Empty is = absurd is
-  same_both len (payload.Ack a) (payload.Payload b) is = absurd is
-  same_both len (payload.Ack a) (payload.Err b) is = absurd is
-  same_both len (payload.Ack a) (payload.Ack b) is = (refl, refl)
-  same_both len (payload.Ack a) (payload.Capped b) is = absurd is
-  same_both len (payload.Ack a) (payload.DumpExtAck b) is = absurd is
-  same_both len (payload.Ack a) payload.Empty is = absurd is
-  same_both len (payload.Capped a) (payload.Payload b) is = absurd is
-  same_both len (payload.Capped a) (payload.Err b) is = absurd is
-  same_both len (payload.Capped a) (payload.Ack b) is = absurd is
-  same_both len (payload.Capped a) (payload.Capped b) is = (refl, refl)
-  same_both len (payload.Capped a) (payload.DumpExtAck b) is = absurd is
-  same_both len (payload.Capped a) payload.Empty is = absurd is
-  same_both len (payload.DumpExtAck a) (payload.Payload b) is = absurd is
-  same_both len (payload.DumpExtAck a) (payload.Err b) is = absurd is
-  same_both len (payload.DumpExtAck a) (payload.Ack b) is = absurd is
-  same_both len (payload.DumpExtAck a) (payload.Capped b) is = absurd is
-  same_both len (payload.DumpExtAck a) (payload.DumpExtAck b) is = (refl, ap (λ (e : Nlmsgerr (Unit {0})). e.error) is)
-  same_both len (payload.DumpExtAck a) payload.Empty is = absurd is
-  same_both len payload.Empty (payload.Payload b) is = absurd is
-  same_both len payload.Empty (payload.Err b) is = absurd is
-  same_both len payload.Empty (payload.Ack b) is = absurd is
-  same_both len payload.Empty (payload.Capped b) is = absurd is
-  same_both len payload.Empty (payload.DumpExtAck b) is = absurd is
-  same_both len payload.Empty payload.Empty is = (refl, refl)
+  same_end len (payload.Payload a) (payload.Payload b) is = (refl, refl)
+  same_end len (payload.Payload a) (payload.Err b) is = absurd is
+  same_end len (payload.Payload a) (payload.Ack b) is = absurd is
+  same_end len (payload.Payload a) (payload.Capped b) is = absurd is
+  same_end len (payload.Payload a) (payload.DumpExtAck b) is = absurd is
+  same_end len (payload.Payload a) payload.Empty is = absurd is
+  same_end len (payload.Err a) (payload.Payload b) is = absurd is
+  same_end len (payload.Err a) (payload.Err b) is = (refl, refl)
+  same_end len (payload.Err a) (payload.Ack b) is = absurd is
+  same_end len (payload.Err a) (payload.Capped b) is = absurd is
+  same_end len (payload.Err a) (payload.DumpExtAck b) is = absurd is
+  same_end len (payload.Err a) payload.Empty is = absurd is
+  same_end len (payload.Ack a) (payload.Payload b) is = absurd is
+  same_end len (payload.Ack a) (payload.Err b) is = absurd is
+  same_end len (payload.Ack a) (payload.Ack b) is = (refl, refl)
+  same_end len (payload.Ack a) (payload.Capped b) is = absurd is
+  same_end len (payload.Ack a) (payload.DumpExtAck b) is = absurd is
+  same_end len (payload.Ack a) payload.Empty is = absurd is
+  same_end len (payload.Capped a) (payload.Payload b) is = absurd is
+  same_end len (payload.Capped a) (payload.Err b) is = absurd is
+  same_end len (payload.Capped a) (payload.Ack b) is = absurd is
+  same_end len (payload.Capped a) (payload.Capped b) is = (refl, refl)
+  same_end len (payload.Capped a) (payload.DumpExtAck b) is = absurd is
+  same_end len (payload.Capped a) payload.Empty is = absurd is
+  same_end len (payload.DumpExtAck a) (payload.Payload b) is = absurd is
+  same_end len (payload.DumpExtAck a) (payload.Err b) is = absurd is
+  same_end len (payload.DumpExtAck a) (payload.Ack b) is = absurd is
+  same_end len (payload.DumpExtAck a) (payload.Capped b) is = absurd is
+  same_end len (payload.DumpExtAck a) (payload.DumpExtAck b) is = (refl, ap (λ (e : Nlmsgerr (Unit {0})). e.error) is)
+  same_end len (payload.DumpExtAck a) payload.Empty is = absurd is
+  same_end len payload.Empty (payload.Payload b) is = absurd is
+  same_end len payload.Empty (payload.Err b) is = absurd is
+  same_end len payload.Empty (payload.Ack b) is = absurd is
+  same_end len payload.Empty (payload.Capped b) is = absurd is
+  same_end len payload.Empty (payload.DumpExtAck b) is = absurd is
+  same_end len payload.Empty payload.Empty is = (refl, refl)
 
   same_answers : (len : ℕ) (p : NlPayload ℕ (List ℕ)) (q : NlPayload K P) → SameForm len p q → is_answer p ≡ is_answer q
-  same_answers len p q is = (same_both len p q is).0
+  same_answers len p q is = (same_end len p q is).0
 
   same_code : (len : ℕ) (p : NlPayload ℕ (List ℕ)) (q : NlPayload K P) → SameForm len p q → end_code p ≡ end_code q
-  same_code len p q is = (same_both len p q is).1
+  same_code len p q is = (same_end len p q is).1
 
   -- ---- the item where the answers end
 

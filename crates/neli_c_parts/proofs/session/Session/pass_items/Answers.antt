@@ -12,7 +12,8 @@ returns-clause-some c =
     let after : HandleState = c.go_past_items.new.handle in
     let r = c.go_past_items.ensures in
     let out = ap (λ v. v.items) r.handles ∙ (c.in-Some.ensures.some refl).1 in
-    let back = put-back s.handles.items _ s.freed c.go_past_items.new.self.freed c.args.k h after (sym c.in-Some.ensures.taken) out r.freed in
+    let back = put-back s.handles.items _ s.freed c.go_past_items.new.self.freed c.args.k h after
+    (sym c.in-Some.ensures.taken) out r.freed in
     of-value _ _ h c.in-Some.ensures.taken (
       after,
       refl,
