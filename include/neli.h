@@ -225,7 +225,7 @@ enum neli_kind {
     NELI_KIND_PAD = 31,
     NELI_KIND_HOP = 32,   /* a structure with attributes, which come next */
     NELI_KIND_SHORT = 33, /* bytes: less than the structure that a nest begins with */
-    NELI_KIND_DEEP = 34,  /* bytes: a nest in ten others */
+    NELI_KIND_DEEP = 34,  /* bytes: a nest in nine others, which is not entered */
     NELI_KIND_REST = 35   /* bytes behind the attributes of a list, which are none */
 };
 

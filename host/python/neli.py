@@ -406,11 +406,11 @@ def messages(data, family=None):
         found.append(Message(data, read, family))
 
 
-def _check_u16(*numbers):
-    """Refuses a number that 16 bits cannot hold, which ctypes would cut."""
+def _fit(bits, *numbers):
+    """Refuses a number that so many bits cannot hold, which ctypes would cut."""
     for number in numbers:
-        if not 0 <= number <= 0xFFFF:
-            raise ValueError(f"{number} does not fit 16 bits")
+        if not 0 <= number < 1 << bits:
+            raise ValueError(f"{number} does not fit {bits} bits")
 
 
 def nla(number, value, nested=False):
@@ -418,7 +418,7 @@ def nla(number, value, nested=False):
 
     A ValueError if its payload has more than 65531 bytes, or its number does not fit 16 bits.
     """
-    _check_u16(number)
+    _fit(16, number)
     if isinstance(value, (list, tuple)):
         value, nested = b"".join(value), True
     if isinstance(value, str):
@@ -540,7 +540,8 @@ class _Socket:
     def bind(self, groups=()):
         """Opens it again, in these groups; closes the open socket.
 
-        A NetlinkError if the system refuses the socket or a group; then it is closed.
+        A NetlinkError if the system refuses the socket or a group; then it is closed. A ValueError if a group does not
+        fit 32 bits.
         """
         self._call(self._open, list(groups))
 
@@ -627,7 +628,7 @@ class _Socket:
 
         A NetlinkError if it is not sent; a ValueError if its type or flags do not fit 16 bits.
         """
-        _check_u16(msg_type, msg_flags)
+        _fit(16, msg_type, msg_flags)
         return self._call(self._send, msg_type, msg_flags, bytes(body))
 
     def nlm_request(self, body, msg_type, msg_flags=NLM_F_REQUEST | NLM_F_ACK):
@@ -680,6 +681,7 @@ class NetlinkSocket(_Socket):
     """
 
     def _open(self, groups):
+        _fit(32, *groups)
         self._shut()
         at, numbers = ctypes.c_void_p(), (ctypes.c_uint32 * max(1, len(groups)))(*groups)
         code = _lib.neli_host_open(ctypes.byref(at), self.family, numbers, len(groups))
@@ -778,7 +780,7 @@ class NetlinkSocket(_Socket):
         """
         requests = [(kind, flags, bytes(body)) for kind, flags, body in requests]
         for kind, flags, _ in requests:
-            _check_u16(kind, flags)
+            _fit(16, kind, flags)
         return self._call(self._send_all, requests)
 
     def _send_all(self, requests):

@@ -106,7 +106,8 @@ def _listed(ext_ack):
 class Request(neli.Message):
     """A request as a kernel takes it, from the socket of `port`; `error`, below 0, is as -22 for EINVAL.
 
-    Each answer raises a ValueError if it is too long, if `ext_ack` is no list of attributes, and if memory runs out.
+    Each answer raises a ValueError if it is too long, if its type or flags do not fit 16 bits, if `ext_ack` is no list
+    of attributes, and if memory runs out.
     """
 
     def __init__(self, data, read):
@@ -129,19 +130,22 @@ class Request(neli.Message):
 
     def reply(self, msg_type, body=b"", msg_flags=0):
         """One reply."""
+        neli._fit(16, msg_type, msg_flags)
         return _made(_lib.neli_c_kernel_reply, ctypes.byref(self._asked), msg_type, msg_flags, body, len(body))
 
     def dump(self, listed, msg_flags=0, error=0, ext_ack=b"", limit=8192):
         """The datagrams of a dump: its messages are {"type": .., "body": .., "flags": ..}, and the end has the rest.
 
-        A ValueError also if one of them is longer than `limit`.
+        A ValueError also if a message is longer than `limit`.
         """
+        neli._fit(16, msg_flags)
         dump, text = _Opaque(), _listed(ext_ack)
         at = ctypes.byref(dump)
         try:
             codes = [_lib.neli_c_kernel_dump_new(at, ctypes.byref(self._asked), limit)]
             for it in listed:
                 body = it.get("body", b"")
+                neli._fit(16, it["type"], it.get("flags", 0))
                 codes.append(_lib.neli_c_kernel_dump_push(at, it["type"], it.get("flags", 0), body, len(body)))
             codes.append(_lib.neli_c_kernel_dump_finish(at, msg_flags, error, text, len(text)))
             if any(codes):
@@ -168,8 +172,10 @@ def requests(data, port):
 def notification(msg_type, body=b"", msg_flags=0, number=0, port=0):
     """What groups get; number and port are those of the request that caused it, or 0.
 
-    A ValueError if it is too long, and if memory runs out.
+    A ValueError if it is too long, if type or flags do not fit 16 bits or number or port 32, and if memory runs out.
     """
+    neli._fit(16, msg_type, msg_flags)
+    neli._fit(32, number, port)
     return _made(_lib.neli_c_kernel_notification, msg_type, msg_flags, number, port, body, len(body))
 
 
@@ -177,7 +183,7 @@ class SimulatedSocket(neli._Socket):
     """A socket with a kernel of your own: `serve` gives the datagrams of the answer to a Request.
 
     It never waits, is in all groups, and has no file descriptor. Where nothing is left, a read raises a NetlinkError,
-    whose `status` is WAITS. What `serve` raises, the request raises.
+    whose `status` is WAITS, and its Reply is closed. What `serve` raises, the request raises.
     """
 
     def __init__(self, serve, family=neli.NETLINK_ROUTE, port=4711):
@@ -215,7 +221,7 @@ class SimulatedSocket(neli._Socket):
 
     def request(self, msg_type, msg_flags=NLM_F_ACK, body=b""):
         """Sends a request, which `serve` answers, and returns its Reply; refused as that of a NetlinkSocket."""
-        neli._check_u16(msg_type, msg_flags)
+        neli._fit(16, msg_type, msg_flags)
         reply, sent = self._call(self._send, msg_type, msg_flags, bytes(body))
         for request in requests(sent, self._port):
             for datagram in self._serve(request):
@@ -225,6 +231,8 @@ class SimulatedSocket(neli._Socket):
     def request_all(self, requests):
         """As one `request` after the other. A NetlinkError of the status KIND if two are dumps; then none is sent."""
         requests = [(kind, flags, bytes(body)) for kind, flags, body in requests]
+        for kind, flags, _ in requests:
+            neli._fit(16, kind, flags)
         self._opened()
         if sum(self._is_dump(kind, flags) for kind, flags, _ in requests) > 1:
             raise self._error(KIND)
@@ -244,8 +252,9 @@ class SimulatedSocket(neli._Socket):
     def deliver(self, datagram, group=0):
         """Has a datagram come to a group, as `notification` makes one; or to the port, where it is 0.
 
-        A NetlinkError if memory runs out.
+        A NetlinkError if memory runs out; a ValueError if the group does not fit 32 bits.
         """
+        neli._fit(32, group)
         self._call(self._take_in, datagram, ctypes.c_uint32(group))
 
     def _take_in(self, datagram, group):

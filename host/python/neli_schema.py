@@ -133,7 +133,8 @@ class Schema:
         _done(code)
 
     def learn(self, number, name):
-        """Learns that the family of generic netlink with this name has this number."""
+        """Learns that the family of generic netlink with this name has this number; a ValueError past 16 bits."""
+        neli._fit(16, number)
         name = os.fsencode(name)
         _done(_lib.neli_c_tables_learn(ctypes.byref(self._tables), number, name, len(name)))
 

@@ -410,8 +410,8 @@ impl<T: AttrNumber, P: ToBytes> RtattrBuilder<T, P> {
         self
     }
 
-    /// Returns the attribute, if both were given; else refused as [`BuildError::Uninitialized`] with the first that was
-    /// not, and then as [`BuildError::Ser`] if the payload can't be written.
+    /// Returns the attribute. Refused as [`BuildError::Uninitialized`] with the first of both that was not given, and
+    /// else as [`BuildError::Ser`] if the payload can't be written.
     pub fn build(self) -> Result<Rtattr<T>, BuildError> {
         let rta_type = self.rta_type.ok_or(UninitializedFieldError("rta_type"))?;
         let payload = self.rta_payload.ok_or(UninitializedFieldError("rta_payload"))?;
@@ -445,8 +445,8 @@ impl<T: AttrNumber, P: ToBytes> NlattrBuilder<T, P> {
         self
     }
 
-    /// Returns the attribute, if both were given; else refused as [`BuildError::Uninitialized`] with the first that was
-    /// not, and then as [`BuildError::Ser`] if the payload can't be written.
+    /// Returns the attribute. Refused as [`BuildError::Uninitialized`] with the first of both that was not given, and
+    /// else as [`BuildError::Ser`] if the payload can't be written.
     pub fn build(self) -> Result<Nlattr<T>, BuildError> {
         let nla_type = self.nla_type.ok_or(UninitializedFieldError("nla_type"))?;
         let payload = self.nla_payload.ok_or(UninitializedFieldError("nla_payload"))?;

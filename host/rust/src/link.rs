@@ -88,7 +88,8 @@ pub trait Link: fmt::Debug + Send + Sync {
     fn port(&self) -> u32;
 
     /// Sends a datagram of one or more requests. Where it is refused, a router takes these as not sent. A socket
-    /// refuses as [`SocketError::Io`], a [`Recording`](crate::recording::Recording) as [`SocketError::Unrecorded`].
+    /// refuses as [`SocketError::Io`], a [`Recording`](crate::recording::Recording) as [`SocketError::Unrecorded`], and
+    /// a simulated kernel as [`SocketError::De`] or [`SocketError::Ser`].
     fn send(&self, datagram: &[u8]) -> Result<(), SocketError>;
 
     /// The next datagram of the kernel, at the front of `room`, which may be longer; none where nothing is there. It

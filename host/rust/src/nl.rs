@@ -353,8 +353,8 @@ impl<T: NlType, P: ToBytes> NlmsghdrBuilder<T, P> {
         self
     }
 
-    /// Returns the message, if type and payload were given; else refused as [`BuildError::Uninitialized`] with the
-    /// first that was not, and then as [`BuildError::Ser`] if the body can't be written or the length exceeds 32 bits.
+    /// Returns the message. Refused as [`BuildError::Uninitialized`] with the first of type and payload that was not
+    /// given, and else as [`BuildError::Ser`] if the body can't be written or the length exceeds 32 bits.
     pub fn build(self) -> Result<Nlmsghdr<T, P>, BuildError> {
         let nl_type = self.nl_type.ok_or(UninitializedFieldError("nl_type"))?;
         let nl_payload = self.nl_payload.ok_or(UninitializedFieldError("nl_payload"))?;

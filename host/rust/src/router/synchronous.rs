@@ -163,8 +163,8 @@ impl<L: Link + 'static> NlRouter<L> {
     /// A dump is sent when the one before has ended, whose replies wait at their handle.
     ///
     /// Refused as [`RouterError::Ser`] if the body can't be written or the length exceeds 32 bits, as
-    /// [`RouterError::SeqInUse`] if an answer with its number may still arrive, as [`RouterError::Memory`] if memory
-    /// runs out, and if the link refuses.
+    /// [`RouterError::SeqInUse`] if its number is that of a request whose handle is open or whose answer may still
+    /// arrive, as [`RouterError::Memory`] if memory runs out, and if the link refuses.
     pub fn send<ST, SP, RT, RP>(
         &self,
         nl_type: ST,
@@ -354,7 +354,8 @@ impl<T, P> NlRouterReceiverHandle<T, P> {
     /// to the state.
     ///
     /// The dump is repeated as by [`NlRouter::dump`], at most so many times; then the last error is returned. Refused
-    /// as `ClosedChannel` if the handle is not that of multicast, as `Socket` if the link is gone, and else as that is.
+    /// as `ClosedChannel` if the handle is not that of multicast, as `Socket` if the link is gone, and else as
+    /// [`NlRouter::dump`] is.
     pub fn resync<ST, SP, RT, RP>(
         &mut self,
         nl_type: ST,
