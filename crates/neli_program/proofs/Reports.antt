@@ -1,8 +1,7 @@
 -- The lines of a report, one after the other.
-use Rattle.std.proofs.Common.{◌≡◌, ◌∙◌, ℕ, ◌+◌, List, [], ◌∷◌, ◌++◌, codes, length, Ok, sym, ap, append_assoc, ◌≤◌}
+use Rattle.std.proofs.Common.{◌≡◌, ◌∙◌, ℕ, ◌+◌, List, [], ◌∷◌, ◌++◌, codes, length, Ok, sym, ap, append_assoc}
 use Rattle.std.proofs.Common.{arith}
 use Rattle.neli_runs.specs.declared.command.Command.{Command}
-use Rattle.neli_runs.specs.declared.command.Outcome.TheVariants as outcome
 use Rattle.neli_runs.specs.OpenRuns.{GoesOn}
 use Rattle.neli_runs.specs.laws.Kept.{Handles, Pending}
 use Rattle.neli_program.specs.Plays.{Performs, requests_in}

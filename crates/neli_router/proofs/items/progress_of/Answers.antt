@@ -1,7 +1,6 @@
 use Rattle.std.proofs.Common.{◌≡◌, ◌++◌, ◌∷◌, ◌+◌, [], true, take, sym, ap, ◌∙◌}
 use Rattle.std.proofs.lemmas.List.{take_more}
-use Rattle.neli_router.specs.Verdicts.{verdict}
-use Rattle.neli_router.specs.laws.Verdicts.{filtered_next, gave, gave_next, stops, stops_next, verdict_next}
+use Rattle.neli_router.specs.laws.Verdicts.{filtered_next, gave_next, stops_next, verdict_next}
 use Rattle.neli_router.proofs.items.progress_of.Goals as goal
 
 pub loop-item-preserved : goal.loop-item-preserved
