@@ -1,0 +1,3 @@
+mod Messages
+mod Queues
+mod Datagrams

@@ -1,0 +1,77 @@
+use Rattle.std.proofs.Common.{◌∙◌, List, [], ap, rules, subst, sym, take, ℕ}
+use Rattle.neli_reader.specs.Cuts.{Cut}
+use Rattle.neli_lent.specs.Messages.{Lent, message_view}
+use Rattle.neli_session.specs.Messages.{messages_of}
+use Rattle.neli_session.specs.Sessions.{HaveCome, HaveComeBeforeLoss, after, among, at, gains, is_heard, is_unasked, share}
+use Rattle.neli_session.specs.Sessions.{with_loss}
+use Rattle.neli_session.specs.declared.loss.Loss.TheVariants as loss
+use Rattle.neli_session.proofs.Datagrams.{come-loss, come-more, come-none, fault-messages, front-messages}
+use Rattle.neli_session.proofs.Messages.{none-there}
+use Rattle.neli_session.proofs.session.Session.receive.Goals as goal
+
+pub loop-place-init : goal.loop-place-init
+loop-place-init c =
+    let before = c.args.self.now in
+    record {
+      within = search rules;
+      whole = ap (λ (cut : Cut (Lent ℕ)). cut.1) none-there;
+      come = come-none before.port c.args.group c.args.is_joined (messages_of []) (at before.requests) before.multicast
+          before.unasked (ap (λ (cut : Cut (Lent ℕ)). cut.0) none-there);
+      port = search rules;
+      awaited = search rules;
+    }
+
+pub loop-place-preserved : goal.loop-place-preserved
+loop-place-preserved c =
+    let before = c.args.self.now in
+    let now = c.loop-place.self in
+    let new = c.take_in.new.self in
+    let m : Lent ℕ = message_view c.in-Ok.message in
+    let group = c.args.group in
+    let joined = c.args.is_joined in
+    let inv = c.loop-place.invariant in
+    let front = take c.loop-place.place c.args.datagram.now in
+    let more = front-messages c.args.datagram.now c.in-Ok.span.now c.loop-place.place m inv.within c.in-Ok.ensures.span
+    inv.whole c.in-Ok.ensures.message in
+    let own = λ (q : ℕ). c.in-Ok-take_in.ensures.requests q
+    ∙ ap (λ (p : ℕ). after p group m q (at now.requests q)) inv.port in
+    let heard = c.in-Ok-take_in.ensures.multicast
+    ∙ ap (λ (p : ℕ). gains (share (is_heard p group joined m) m) now.multicast) inv.port in
+    let unasked = c.in-Ok-take_in.ensures.unasked
+    ∙ ap (λ (p : ℕ). gains (share (is_unasked p group (at now.requests) m) m) now.unasked) inv.port in
+    let come = come-more before.port group joined (messages_of front) m (at before.requests) (at now.requests)
+    (at new.requests) before.multicast now.multicast new.multicast before.unasked now.unasked new.unasked inv.come own
+    heard unasked in
+    record {
+      within = c.in-Ok.ensures.within;
+      whole = ap (λ (cut : Cut (Lent ℕ)). cut.1) more;
+      come = subst (λ (ms : List (Lent ℕ)). HaveCome before.port group joined ms (at before.requests) (at new.requests)
+          before.multicast new.multicast before.unasked new.unasked) (sym (ap (λ (cut : Cut (Lent ℕ)). cut.0) more)) come;
+      port = c.take_in.ensures.port ∙ inv.port;
+      awaited = c.take_in.ensures.awaited ∙ inv.awaited;
+    }
+
+pub returns-in-Ok-lose-clause-whole : goal.returns-in-Ok-lose-clause-whole
+returns-in-Ok-lose-clause-whole c = λ whole.
+    let faulty = fault-messages c.args.datagram.now c.loop-place.place c.in_default.field-0 c.loop-place.invariant.whole
+    c.in_default.ensures.fault in
+    let none = sym (ap (λ (cut : Cut (Lent ℕ)). cut.1) faulty) ∙ whole in
+    absurd cc
+
+pub returns-in-Ok-lose-clause-faulty : goal.returns-in-Ok-lose-clause-faulty
+returns-in-Ok-lose-clause-faulty c = λ e is.
+    let before = c.args.self.now in
+    let now = c.loop-place.self in
+    let new = c.lose.new.self in
+    let inv = c.loop-place.invariant in
+    let faulty = fault-messages c.args.datagram.now c.loop-place.place c.in_default.field-0 inv.whole
+    c.in_default.ensures.fault in
+    let own = λ (q : ℕ). c.in-Ok-lose.ensures.requests q
+    ∙ ap (λ (xs : List ℕ). among xs (with_loss loss.Datagram) q (at now.requests q)) (ap (λ v. v.items) inv.awaited) in
+    let come = come-loss before.port c.args.group c.args.is_joined
+    (messages_of (take c.loop-place.place c.args.datagram.now)) before.awaited.items (at before.requests)
+    (at now.requests) (at new.requests) before.multicast now.multicast new.multicast before.unasked now.unasked
+    new.unasked inv.come own c.in-Ok-lose.ensures.multicast c.in-Ok-lose.ensures.unasked in
+    subst (λ (ms : List (Lent ℕ)). HaveComeBeforeLoss before.port c.args.group c.args.is_joined ms before.awaited.items
+    (at before.requests) (at new.requests) before.multicast new.multicast before.unasked new.unasked)
+    (sym (ap (λ (cut : Cut (Lent ℕ)). cut.0) faulty)) come

@@ -1,0 +1,34 @@
+//! A session: what a client of the kernel needs beside the bytes of its messages. It has no socket: the caller hands in
+//! what came, and what the link reported.
+//!
+//! - [`Session::expect`]: a request was sent, and its answer is awaited.
+//! - [`Session::receive`], [`Session::fault`], [`Session::quiet`]: a datagram came, the link failed, or was seen empty.
+//! - [`Session::next`] lends a reader's next item; `pass_answer`, `pass_multicast` and `pass_unasked` go on.
+//! - [`Session::verdict`]: whether all of an answer was read, and nothing of it was lost.
+//! - [`Session::close`]: nobody reads an answer any more; its number is in use until nothing more can come for it.
+//!
+//! A message goes to the request that it answers, to multicast, to both if it is the notification of the session's own
+//! change, or else to the reader of what nobody asked for. It is kept once for each of them. Where an answer ends is
+//! decided by its [`Answering`], which the caller takes from the table of neli_answers. What is lost is told once to each
+//! request that was awaited, after the messages before it, and in its place to the other two readers.
+//!
+//! `specs/Requests.antt` defines what comes for a request and the verdict; `specs/Sessions.antt` the receivers of a
+//! message, a datagram, a loss, and what a read returns.
+#![tactic(auto)]
+
+mod chunk;
+mod loss;
+mod queue;
+mod reading;
+mod receiving;
+mod request;
+mod requests;
+mod session;
+mod spans;
+
+pub use loss::Loss;
+pub use neli_answers::Answering;
+pub use reading::{Next, Reader};
+pub use receiving::Untaken;
+pub use request::Verdict;
+pub use session::{ExpectError, Session};

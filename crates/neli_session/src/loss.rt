@@ -1,0 +1,10 @@
+//! What is lost.
+
+/// Something that the link lost.
+#[derive(Clone, Copy, Debug, PartialEq, Eq)]
+pub enum Loss {
+    /// The link reported a fault: its errno, as 105 for `ENOBUFS`.
+    Link(i32),
+    /// A datagram could not be read to its end.
+    Datagram,
+}

@@ -1,0 +1,159 @@
+//! What is read.
+
+ghost use Rattle.std.specs.Prelude.{◌≡◌, ℕ, None, Some, IfSome, IsNone, false, nat_eq, option_map};
+ghost use Rattle.neli_session.specs.Requests.{verdict_of};
+ghost use Rattle.neli_session.specs.Sessions.{IsReplyOf, IsReplyOfQueue, at, closed_at, passed_at, without_first};
+
+use crate::queue::Queue;
+use crate::requests::{close, pass};
+use crate::{Loss, Session, Verdict};
+use neli_lent::LentMessage;
+
+/// Whose reads these are.
+#[derive(Clone, Copy, Debug, PartialEq, Eq)]
+pub enum Reader {
+    /// The answer to the request with this sequence number.
+    Request(u32),
+    /// What came for groups.
+    Multicast,
+    /// What came for no group, and answers no request.
+    Unasked,
+}
+
+/// The result of a read.
+#[derive(Clone, Copy, Debug)]
+pub enum Next<'b> {
+    /// The next message, lent where the session keeps its bytes.
+    Message(LentMessage<'b, u16>),
+    /// Something was lost here.
+    Loss(Loss),
+    /// No item follows.
+    End,
+    /// No item has come yet.
+    Waits,
+    /// Nobody reads here: the request is not in use or was closed.
+    Closed,
+}
+
+/// The next of a queue.
+fn next_in(queue: &Option<Queue>) -> Next<'_>
+    ensures { IsReplyOfQueue queue.now result }
+{
+    match queue {
+        None => Next::Closed,
+        Some(queue) => match queue.first() {
+            None => Next::Waits,
+            Some(Ok(message)) => Next::Message(message),
+            Some(Err(loss)) => Next::Loss(loss),
+        },
+    }
+}
+
+/// Goes past the first of a queue, if there is one.
+fn pass_in(queue: &mut Option<Queue>)
+    ensures { queue.new ≡ without_first queue.old }
+{
+    if let Some(queue) = queue {
+        queue.pass();
+    }
+}
+
+impl Session {
+    /// The next item of the answer to a request.
+    fn next_answer(&self, number: u32) -> Next<'_>
+        ensures { IsReplyOf (at self.now.requests number) result }
+    {
+        let Some(request) = self.requests.get(&number) else {
+            return Next::Closed;
+        };
+        if !request.is_open {
+            return Next::Closed;
+        }
+        match request.next() {
+            Some(Ok(message)) => Next::Message(message),
+            Some(Err(loss)) => Next::Loss(loss),
+            None => {
+                if request.has_ended() {
+                    Next::End
+                } else {
+                    Next::Waits
+                }
+            }
+        }
+    }
+
+    /// Lends the next item of a reader; or returns the end, or that it waits. The item stays the next one until
+    /// it is passed. It takes no memory.
+    pub fn next(&self, reader: Reader) -> Next<'_>
+        ensures request { (q : ℕ) → reader ≡ Reader.Request q
+            → IsReplyOf (at self.now.requests q) result }
+        ensures multicast { reader ≡ Reader.Multicast
+            → IsReplyOfQueue self.now.multicast result }
+        ensures unasked { reader ≡ Reader.Unasked → IsReplyOfQueue self.now.unasked result }
+    {
+        match reader {
+            Reader::Request(number) => self.next_answer(number),
+            Reader::Multicast => next_in(&self.multicast),
+            Reader::Unasked => next_in(&self.unasked),
+        }
+    }
+
+    /// Goes past the next item of the answer to a request, if there is one.
+    pub fn pass_answer(&mut self, number: u32)
+        ensures own { at self.new.requests number ≡ passed_at (at self.old.requests number) }
+        ensures others { (q : ℕ) → nat_eq number q ≡ false
+            → at self.new.requests q ≡ at self.old.requests q }
+        ensures multicast { self.new.multicast ≡ self.old.multicast }
+        ensures unasked { self.new.unasked ≡ self.old.unasked }
+        ensures awaited { self.new.awaited ≡ self.old.awaited }
+        ensures port { self.new.port ≡ self.old.port }
+    {
+        pass(&mut self.requests, number);
+    }
+
+    /// Goes past the next message or loss of multicast, if there is one.
+    pub fn pass_multicast(&mut self)
+        ensures multicast { self.new.multicast ≡ without_first self.old.multicast }
+        ensures requests { self.new.requests ≡ self.old.requests }
+        ensures unasked { self.new.unasked ≡ self.old.unasked }
+        ensures awaited { self.new.awaited ≡ self.old.awaited }
+        ensures port { self.new.port ≡ self.old.port }
+    {
+        pass_in(&mut self.multicast);
+    }
+
+    /// Goes past the next message or loss of what answers no request, if there is one.
+    pub fn pass_unasked(&mut self)
+        ensures unasked { self.new.unasked ≡ without_first self.old.unasked }
+        ensures requests { self.new.requests ≡ self.old.requests }
+        ensures multicast { self.new.multicast ≡ self.old.multicast }
+        ensures awaited { self.new.awaited ≡ self.old.awaited }
+        ensures port { self.new.port ≡ self.old.port }
+    {
+        pass_in(&mut self.unasked);
+    }
+
+    /// The verdict on the answer to a request, by what was read of it; none if its number is not in use.
+    pub fn verdict(&self, number: u32) -> Option<Verdict>
+        ensures { result ≡ option_map verdict_of (at self.now.requests number) }
+    {
+        match self.requests.get(&number) {
+            None => None,
+            Some(request) => Some(request.verdict()),
+        }
+    }
+
+    /// Closes a request: nothing of its answer is kept any more, and its number is in use until nothing more can come
+    /// for it.
+    pub fn close(&mut self, number: u32)
+        ensures own { at self.new.requests number ≡ closed_at (at self.old.requests number) }
+        ensures others { (q : ℕ) → nat_eq number q ≡ false
+            → at self.new.requests q ≡ at self.old.requests q }
+        ensures multicast { self.new.multicast ≡ self.old.multicast }
+        ensures unasked { self.new.unasked ≡ self.old.unasked }
+        ensures awaited { self.new.awaited ≡ self.old.awaited }
+        ensures port { self.new.port ≡ self.old.port }
+    {
+        close(&mut self.requests, number);
+    }
+}

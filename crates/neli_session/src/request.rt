@@ -1,0 +1,298 @@
+//! A request: what comes for it, until nothing more can come.
+
+ghost use Rattle.std.specs.Prelude.{◌≡◌, ◌++◌, ◌∷◌, [], None, Ok, if◌then◌else◌, OnErr, OnOk, true, false, option_map};
+ghost use Rattle.neli_lent.specs.Messages.{message_view};
+ghost use Rattle.neli_answers.specs.Answers.{ends_answer};
+ghost use Rattle.neli_session.specs.Messages.{IsMessage};
+ghost use Rattle.neli_session.specs.Waiting.{lent_item};
+ghost use Rattle.neli_session.specs.Requests.{answers, code_of, code_or_zero, end_verdict, heard, is_awaited, is_over};
+ghost use Rattle.neli_session.specs.Requests.{item_verdict, lost, message_verdict, next_item, passed, quiet, verdict_of};
+ghost use Rattle.neli_session.specs.Sessions.{closed, expected, has_ended};
+
+use crate::Loss;
+use crate::queue::Queue;
+use bitflags::Flags;
+use byteorder::{ByteOrder, LittleEndian};
+use neli_answers::Answering;
+use neli_consts::{NLMSG_DONE, NLMSG_ERROR, NlmF};
+use neli_lent::LentMessage;
+use neli_wire::NoMemory;
+use std::alloc::Global;
+
+/// How far the answer to a request has come.
+#[derive(Clone, Copy, Debug, PartialEq, Eq)]
+pub(crate) enum Stage {
+    /// It was sent, and something may still come.
+    Awaited,
+    /// The message that ends it has come.
+    Ended,
+    /// The link was seen empty before such a message.
+    Silent,
+}
+
+impl Stage {
+    /// Whether something may still come.
+    pub(crate) fn is_awaited(self) -> bool
+        ensures { result ≡ is_awaited self }
+    {
+        matches!(self, Stage::Awaited)
+    }
+
+    /// Whether nothing comes any more.
+    pub(crate) fn is_over(self) -> bool
+        ensures { result ≡ is_over self }
+    {
+        matches!(self, Stage::Ended | Stage::Silent)
+    }
+}
+
+/// The verdict on an answer, by what was read of it. All but [`Verdict::Pending`] are final.
+#[derive(Clone, Copy, Debug, PartialEq, Eq)]
+pub enum Verdict {
+    /// More of it is to be read, or to come.
+    Pending,
+    /// All of it was read, its end too, and nothing of it was lost or marked as interrupted.
+    Complete,
+    /// A message of it has the flag `NLM_F_DUMP_INTR`: the listed objects changed meanwhile, so entries may be missing
+    /// or repeated. Request it again.
+    Interrupted,
+    /// The other side answered with an error, or ended a dump with one: the code, as -19 for `ENODEV`.
+    Failed(i32),
+    /// Something was lost while it was awaited.
+    Lost(Loss),
+    /// The link was seen empty before its end: nothing more comes.
+    Unanswered,
+}
+
+/// A request whose number is in use.
+#[derive(Drop)]
+pub(crate) struct Request {
+    pub(crate) answering: Answering,
+    /// It has the flag ECHO: the notification of its change is part of its answer.
+    pub(crate) echoes: bool,
+    pub(crate) stage: Stage,
+    /// Somebody reads its answer.
+    pub(crate) is_open: bool,
+    /// The messages that wait to be read.
+    pub(crate) waiting: Queue,
+    /// The first loss while its answer was awaited.
+    pub(crate) loss: Option<Loss>,
+    /// That loss was read.
+    pub(crate) is_told: bool,
+    /// The verdict by the items that were read.
+    pub(crate) noted: Verdict,
+}
+
+/// The code at the front of these bytes; 0 if they are too few.
+fn code_or_zero(payload: &[u8]) -> i32
+    ensures { result ≡ code_or_zero payload.now }
+{
+    if payload.len() < 4 {
+        return 0;
+    }
+    LittleEndian::read_i32(payload)
+}
+
+/// The code of an error, an acknowledgement or the end of a dump; 0 of another message.
+fn code_of(message: &LentMessage<'_, u16>) -> i32
+    ensures { result ≡ code_of (message_view message.now) }
+{
+    match *message.nl_type() {
+        NLMSG_ERROR | NLMSG_DONE => code_or_zero(message.nl_payload()),
+        _ => 0,
+    }
+}
+
+/// The verdict by a message.
+fn message_verdict(message: &LentMessage<'_, u16>) -> Verdict
+    ensures { result ≡ message_verdict (message_view message.now) }
+{
+    let code = code_of(message);
+    if message.nl_flags().contains(NlmF::DUMP_INTR) {
+        Verdict::Interrupted
+    } else if code == 0 {
+        Verdict::Pending
+    } else {
+        Verdict::Failed(code)
+    }
+}
+
+/// The verdict by an item.
+fn item_verdict(item: &Result<LentMessage<'_, u16>, Loss>) -> Verdict
+    ensures { result ≡ item_verdict (lent_item item.now) }
+{
+    match item {
+        Ok(message) => message_verdict(message),
+        Err(loss) => Verdict::Lost(*loss),
+    }
+}
+
+/// The verdict where all of an answer was read.
+fn end_verdict(stage: Stage, answering: Answering) -> Verdict
+    ensures { result ≡ end_verdict stage answering }
+{
+    match stage {
+        Stage::Ended => Verdict::Complete,
+        Stage::Silent => match answering {
+            Answering::Silence => Verdict::Complete,
+            _ => Verdict::Unanswered,
+        },
+        _ => Verdict::Pending,
+    }
+}
+
+impl Request {
+    /// A request that was just sent. It takes no memory.
+    pub(crate) fn new(alloc: Global, answering: Answering, echoes: bool) -> Request
+        ensures { result ≡ expected answering echoes }
+    {
+        Request {
+            answering,
+            echoes,
+            stage: Stage::Awaited,
+            is_open: true,
+            waiting: Queue::new(alloc),
+            loss: None,
+            is_told: false,
+            noted: Verdict::Pending,
+        }
+    }
+
+    /// Whether a message for this group, or for none, which is 0, answers it.
+    pub(crate) fn answers(&self, group: u32) -> bool
+        ensures { result ≡ answers group self.now }
+    {
+        self.stage.is_awaited() && (group == 0 || self.echoes)
+    }
+
+    /// Takes in a message of its answer, which these bytes are. Refused only if memory runs out; then nothing changes.
+    pub(crate) fn hear(
+        &mut self,
+        message: &LentMessage<'_, u16>,
+        span: &[u8],
+    ) -> Result<(), NoMemory>
+        requires { IsMessage span.now (message_view message.now) }
+        ensures heard { OnOk result (self.new ≡ heard (message_view message.now) self.old) }
+        ensures unchanged { OnErr result (self.new ≡ self.old) }
+    {
+        if self.is_open && self.loss.is_none() {
+            self.waiting.add(span)?;
+        }
+        self.note(message);
+        Ok(())
+    }
+
+    /// Takes in such a message, and appends it to a queue too. Refused only if memory runs out; then nothing changes.
+    pub(crate) fn hear_with(
+        &mut self,
+        queue: &mut Queue,
+        message: &LentMessage<'_, u16>,
+        span: &[u8],
+    ) -> Result<(), NoMemory>
+        requires { IsMessage span.now (message_view message.now) }
+        ensures heard { OnOk result (self.new ≡ heard (message_view message.now) self.old) }
+        ensures queue { OnOk result
+            (queue.new ≡ queue.old ++ Ok (message_view message.now) ∷ []) }
+        ensures unchanged { OnErr result ((self.new ≡ self.old) × (queue.new ≡ queue.old)) }
+    {
+        if self.is_open && self.loss.is_none() {
+            self.waiting.add_both(queue, span)?;
+        } else {
+            queue.add(span)?;
+        }
+        self.note(message);
+        Ok(())
+    }
+
+    /// Notes whether its answer ends with a message.
+    fn note(&mut self, message: &LentMessage<'_, u16>)
+        ensures { self.new ≡ record self.old {
+          stage = if ends_answer self.old.answering (message_view message.now).0.message_type
+              (message_view message.now).0.flags then Stage.Ended else self.old.stage;
+        } }
+    {
+        if self
+            .answering
+            .ends_with(*message.nl_type(), *message.nl_flags())
+        {
+            self.stage = Stage::Ended;
+        }
+    }
+
+    /// Notes a loss.
+    pub(crate) fn lose(&mut self, loss: Loss)
+        ensures { self.new ≡ lost loss self.old }
+    {
+        if self.stage.is_awaited() && self.loss.is_none() {
+            self.loss = Some(loss);
+        }
+    }
+
+    /// The next item.
+    pub(crate) fn next(&self) -> Option<Result<LentMessage<'_, u16>, Loss>>
+        ensures { option_map lent_item result ≡ next_item self.now }
+    {
+        match self.waiting.first() {
+            Some(item) => Some(item),
+            None => match self.loss {
+                Some(loss) if !self.is_told => Some(Err(loss)),
+                _ => None,
+            },
+        }
+    }
+
+    /// Goes past the next item, if there is one.
+    pub(crate) fn pass(&mut self)
+        ensures { self.new ≡ passed self.old }
+    {
+        let Some(item) = self.next() else {
+            return;
+        };
+        let by_item = item_verdict(&item);
+        if self.noted == Verdict::Pending {
+            self.noted = by_item;
+        }
+        if self.waiting.is_empty() {
+            self.is_told = true;
+        } else {
+            self.waiting.pass();
+        }
+    }
+
+    /// Whether no item follows those that wait.
+    pub(crate) fn has_ended(&self) -> bool
+        ensures { result ≡ has_ended self.now }
+    {
+        self.stage.is_over() || self.loss.is_some()
+    }
+
+    /// Keeps nothing of its answer any more. It takes no memory.
+    pub(crate) fn close(&mut self)
+        ensures { self.new ≡ record self.old { is_open = false; waiting = [] } }
+    {
+        self.is_open = false;
+        self.waiting.clear();
+    }
+
+    /// The verdict on its answer.
+    pub(crate) fn verdict(&self) -> Verdict
+        ensures { result ≡ verdict_of self.now }
+    {
+        match self.noted {
+            Verdict::Pending => match self.next() {
+                Some(_) => Verdict::Pending,
+                None => end_verdict(self.stage, self.answering),
+            },
+            noted => noted,
+        }
+    }
+
+    /// Notes that the link was seen empty.
+    pub(crate) fn settle(&mut self)
+        ensures { self.new ≡ quiet self.old }
+    {
+        if self.stage.is_awaited() {
+            self.stage = Stage::Silent;
+        }
+    }
+}
