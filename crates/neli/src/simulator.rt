@@ -1,5 +1,6 @@
 //! A kernel to test against: its answers to a request, as bytes.
 
+pub use neli_answers::Answering;
 pub use neli_kernel::{Dump, ExtAck, Request, notification, read_ext_ack};
 
 /// Laws: an answer's bytes on the link, the handle that a router delivers it to, and the reply to each read of that

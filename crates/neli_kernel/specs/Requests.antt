@@ -1,6 +1,10 @@
--- The kind of a request (the kernel's `netlink_rcv_skb`, `genl_family_rcv_msg` and `rtnetlink_rcv_msg`; the flags of
--- linux/netlink.h).
-use Rattle.std.specs.Prelude.{ℕ, ◌==◌, ◌&&◌, ◌%◌, Bool, bit_and, nat_le, not}
+-- The kind of a request (the kernel's `netlink_rcv_skb`; the flags of linux/netlink.h), and how it is answered, by the
+-- table of neli_answers.
+use Rattle.std.specs.Prelude.{ℕ, ◌==◌, ◌&&◌, Bool, bit_and, length, nat_le}
+use Rattle.neli_consts_system.specs.declared.socket.NlFamily.{NlFamily}
+use Rattle.neli_consts_system.specs.declared.socket.NlFamily.TheVariants.{Generic, Route}
+use Rattle.neli_answers.specs.Answers.{answering_of, is_dump}
+use Rattle.neli_answers.specs.declared.answering.Answering.{Answering}
 use Rattle.neli_kernel.specs.declared.request.Request.{Request}
 
 -- all of these bits are set in its flags
@@ -11,6 +15,15 @@ has_flags asked bits = bit_and asked.header.flags.0 bits == bits
 abbrev pub is_handled : Request → Bool
 is_handled asked = has_flags asked 1 && nat_le 16 asked.header.message_type
 
--- in routing netlink: the type is that of a get, which is 2 modulo 4, and a bit of DUMP (768) is set
+-- how it is answered on a socket of this protocol
+abbrev pub answering_in : NlFamily → Request → Answering
+answering_in protocol asked =
+    answering_of protocol asked.header.message_type asked.header.flags (length asked.payload.now)
+
+-- in generic netlink it is a dump
+abbrev pub wants_dump : Request → Bool
+wants_dump asked = is_dump Generic asked.header.message_type asked.header.flags
+
+-- in routing netlink it is one
 abbrev pub wants_routing_dump : Request → Bool
-wants_routing_dump asked = (asked.header.message_type % 4 == 2) && not (bit_and asked.header.flags.0 768 == 0)
+wants_routing_dump asked = is_dump Route asked.header.message_type asked.header.flags

@@ -2,18 +2,21 @@
 
 ghost use Rattle.std.specs.Prelude.{◌≡◌, ◌<◌, [], Ok, IfOk, IfErr, length};
 ghost use Rattle.neli_wire.specs.Refusals.{Refuses};
+ghost use Rattle.neli_answers.specs.Answers.{is_dump};
 ghost use Rattle.neli_reader.specs.Answers.{ext_ack_in};
 ghost use Rattle.neli_reader.specs.NlPayload.TheVariants as payload;
 ghost use Rattle.neli_kernel.specs.Answers.{RefusesMessage, acknowledgement, answer_flags, capped_error};
 ghost use Rattle.neli_kernel.specs.Answers.{control, error, message_or_refusal, reply};
 ghost use Rattle.neli_kernel.specs.Dumps.{dump_end, packed_in};
-ghost use Rattle.neli_kernel.specs.Requests.{has_flags, is_handled, wants_routing_dump};
+ghost use Rattle.neli_kernel.specs.Requests.{answering_in, has_flags, is_handled, wants_dump, wants_routing_dump};
 
 use crate::Dump;
 use crate::message::message;
 use bitflags::Flags;
+use neli_answers::{Answering, is_dump};
 use neli_attr::{Buffer, GenlBuffer};
 use neli_consts::{NlType, NlmF, NlmsgerrAttr};
+use neli_consts_system::NlFamily;
 use neli_lent::LentMessage;
 use neli_list::read_whole;
 use neli_reader::{NlPayload, Nlmsgerr, NlmsgerrBuilder, Nlmsghdr, NlmsghdrAck};
@@ -133,12 +136,24 @@ impl<'b> Request<'b> {
         self.header.nl_flags().contains(NlmF::ACK)
     }
 
+    /// How the kernel answers it on a socket of this protocol, if it has the flag REQUEST and is not refused.
+    pub fn answering(&self, protocol: NlFamily) -> Answering
+        ensures { result ≡ answering_in protocol self.now }
+    {
+        Answering::of(
+            protocol,
+            *self.header.nl_type(),
+            *self.header.nl_flags(),
+            self.payload.len(),
+        )
+    }
+
     /// Whether it requests a dump, as generic netlink reads it: both bits of `NLM_F_DUMP` are set. They have this
     /// meaning only in get requests.
     pub fn wants_dump(&self) -> bool
-        ensures { result ≡ has_flags self.now 768 }
+        ensures { result ≡ wants_dump self.now }
     {
-        self.header.nl_flags().contains(NlmF::DUMP)
+        self.is_dump_of(NlFamily::Generic)
     }
 
     /// Whether it requests a dump, as routing netlink reads it: its type is that of a get, which is 2 modulo 4, as
@@ -147,7 +162,7 @@ impl<'b> Request<'b> {
     pub fn wants_routing_dump(&self) -> bool
         ensures { result ≡ wants_routing_dump self.now }
     {
-        *self.header.nl_type() % 4 == 2 && self.header.nl_flags().intersects(NlmF::DUMP)
+        self.is_dump_of(NlFamily::Route)
     }
 
     /// Whether it requests an echo: the notification of its change, as groups get it.
@@ -290,6 +305,13 @@ impl<'b> Request<'b> {
         let answer = answer(alloc, code, (), ext_ack);
         let payload: NlPayload<u16, Buffer> = NlPayload::DumpExtAck(answer);
         message(alloc, 3, flags, self.number(), self.port, payload)
+    }
+
+    /// Whether this protocol answers it by a dump.
+    fn is_dump_of(&self, protocol: NlFamily) -> bool
+        ensures { result ≡ is_dump protocol self.now.header.message_type self.now.header.flags }
+    {
+        is_dump(protocol, *self.header.nl_type(), *self.header.nl_flags())
     }
 
     /// Its sequence number, which each answer has.
