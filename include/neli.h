@@ -173,6 +173,14 @@ struct neli_request {
     uint8_t wants_echo;            /* NLM_F_ECHO is set */
 };
 
+/* How the kernel answers a request that it does not refuse. An error in place of the answer ends any. */
+enum neli_answering {
+    NELI_ANSWERING_DUMP = 0,            /* by messages up to NLMSG_DONE, and never by an acknowledgement */
+    NELI_ANSWERING_ACKNOWLEDGEMENT = 1, /* by messages, if any, and then the acknowledgement */
+    NELI_ANSWERING_REPLY = 2,           /* by one message, or by several up to NLMSG_DONE */
+    NELI_ANSWERING_SILENCE = 3          /* by nothing, or by its notifications (NLM_F_ECHO): no message ends it */
+};
+
 /* An answer in several messages, which only the library looks into. It begins as NELI_KERNEL_DUMP_CLOSED, is not copied
  * while it is open, is used by one thread at a time, and is freed by its last owner. */
 struct neli_kernel_dump {
@@ -292,6 +300,8 @@ int32_t neli_c_router_give_up(struct neli_router *router, size_t handle);
 int32_t neli_c_router_close(struct neli_router *router, size_t handle);
 int32_t neli_c_next_request(const uint8_t *bytes, size_t length, struct neli_walk *walk, uint32_t port,
                             struct neli_request *request);
+uint32_t neli_c_answering(int32_t protocol, uint16_t type, uint16_t flags, size_t body_length);
+int32_t neli_c_ends_answer(uint32_t answering, uint16_t type, uint16_t flags);
 int32_t neli_c_kernel_ack(const struct neli_request *request, const uint8_t *ext_ack, size_t ext_ack_length,
                           uint8_t *out, size_t room, size_t *length);
 int32_t neli_c_kernel_capped_error(const struct neli_request *request, int32_t code, const uint8_t *ext_ack,
@@ -693,6 +703,22 @@ static inline int32_t neli_router_give_up(struct neli_router *router, size_t han
 static inline int32_t neli_router_close(struct neli_router *router, size_t handle) {
     if (router == NULL) return NELI_NULL;
     return neli_c_router_close(router, handle);
+}
+
+/* ---- How Linux answers ---- */
+
+/* How Linux answers a request, as a number of enum neli_answering: one of this protocol (NETLINK_ROUTE is 0), with this
+ * type, these flags, and a body of this length. A protocol whose rules the library does not have is judged by the flags
+ * alone: both bits of NLM_F_DUMP request a dump, else NLM_F_ACK an acknowledgement, else a reply is expected. */
+static inline uint32_t neli_answering(int32_t protocol, uint16_t type, uint16_t flags, size_t body_length) {
+    return neli_c_answering(protocol, type, flags, body_length);
+}
+
+/* 1 if such an answer ends with a message of this type and with these flags, else 0. A dump ends with NLMSG_DONE,
+ * whether its messages have NLM_F_MULTI or not. A number that is none of enum neli_answering is taken for
+ * NELI_ANSWERING_ACKNOWLEDGEMENT. */
+static inline int32_t neli_ends_answer(uint32_t answering, uint16_t type, uint16_t flags) {
+    return neli_c_ends_answer(answering, type, flags);
 }
 
 /* ---- A kernel to test against ---- */

@@ -144,6 +144,7 @@ static void try_request(struct script *script) {
     WANT(found.is_handled == ((flags & 1) && it.type >= 16) && found.wants_acknowledgement == (flags >> 2 & 1));
     WANT(found.wants_dump == ((flags & 0x300) == 0x300) && found.wants_echo == (flags >> 3 & 1));
     WANT(found.wants_routing_dump == (it.type % 4 == 2 && (flags & 0x300) != 0));
+    WANT((neli_answering(16, it.type, it.flags, 0) == NELI_ANSWERING_DUMP) == (it.type >= 16 && found.wants_dump));
     request = found;
 }
 

@@ -63,6 +63,32 @@ static void check_requests(void) {
     CHECK(neli_next_request(bytes, 16, &walk, 9, NULL) == NELI_NULL);
 }
 
+/* How Linux answers requests of routing, generic netlink, netfilter, the connector and others, by its sources. */
+static void check_answerings(void) {
+    static const struct {
+        int32_t protocol;
+        uint16_t type, flags;
+        size_t length;
+        uint32_t answering;
+    } rows[] = {
+        {0, 18, 0x301, 16, NELI_ANSWERING_DUMP}, {0, 18, 0x105, 16, NELI_ANSWERING_DUMP},
+        {0, 18, 0x305, 0, NELI_ANSWERING_ACKNOWLEDGEMENT}, {0, 18, 0x301, 0, NELI_ANSWERING_SILENCE},
+        {0, 16, 0x305, 16, NELI_ANSWERING_ACKNOWLEDGEMENT}, {0, 16, 0x301, 16, NELI_ANSWERING_SILENCE},
+        {0, 18, 1, 16, NELI_ANSWERING_REPLY}, {16, 16, 0x305, 4, NELI_ANSWERING_DUMP},
+        {16, 16, 0x105, 4, NELI_ANSWERING_ACKNOWLEDGEMENT}, {16, 16, 1, 4, NELI_ANSWERING_REPLY},
+        {12, 0xa01, 0x105, 4, NELI_ANSWERING_DUMP}, {12, 0x607, 1, 4, NELI_ANSWERING_DUMP},
+        {11, 20, 4, 20, NELI_ANSWERING_SILENCE}, {99, 20, 0x301, 0, NELI_ANSWERING_DUMP},
+        {99, 20, 0x105, 0, NELI_ANSWERING_ACKNOWLEDGEMENT}, {-1, 20, 0x101, 0, NELI_ANSWERING_REPLY},
+    };
+    for (size_t i = 0; i < sizeof rows / sizeof *rows; i++)
+        CHECK(neli_answering(rows[i].protocol, rows[i].type, rows[i].flags, rows[i].length) == rows[i].answering);
+    for (uint32_t it = 0; it < 6; it++) {
+        bool is_done = it == NELI_ANSWERING_DUMP || it == NELI_ANSWERING_REPLY;
+        CHECK(neli_ends_answer(it, 2, 0) == 1 && neli_ends_answer(it, 3, 2) == is_done);
+        CHECK(neli_ends_answer(it, 16, 0) == (it == NELI_ANSWERING_REPLY) && neli_ends_answer(it, 16, 2) == 0);
+    }
+}
+
 /* An acknowledgement (recording 0517), and one with a text (0799). */
 static void check_acknowledgements(void) {
     uint8_t bytes[128], out[128], ext_ack[128];
@@ -160,6 +186,7 @@ static void check_dump(void) {
 
 int main(void) {
     check_requests();
+    check_answerings();
     check_acknowledgements();
     check_errors();
     check_messages();

@@ -10,7 +10,7 @@ use Rattle.neli_reader.specs.Headers.{flags_of}
 use Rattle.neli_reader.specs.NlPayload.TheVariants as payload
 use Rattle.neli_kernel.specs.Answers.{acknowledgement, capped_error, error, message_or_refusal}
 use Rattle.neli_kernel.specs.Answers.{message_with, reply}
-use Rattle.neli_kernel.specs.Requests.{has_flags, is_handled, wants_routing_dump}
+use Rattle.neli_kernel.specs.Requests.{has_flags, is_handled, wants_dump, wants_routing_dump}
 use Rattle.neli_kernel.specs.declared.request.Request.{Request}
 use Rattle.neli_c_parts.specs.declared.asking.NeliRequest.{NeliRequest}
 use Rattle.neli_c_parts.specs.Codes.{bad_length, memory, ok, place}
@@ -34,7 +34,7 @@ SaysWants r =
     (asked : Request) × IsAsked r [] asked
     × (r.is_handled ≡ byte_of (is_handled asked))
     × (r.wants_acknowledgement ≡ byte_of (has_flags asked 4))
-    × (r.wants_dump ≡ byte_of (has_flags asked 768))
+    × (r.wants_dump ≡ byte_of (wants_dump asked))
     × (r.wants_routing_dump ≡ byte_of (wants_routing_dump asked))
     × (r.wants_echo ≡ byte_of (has_flags asked 8))
 

@@ -3,6 +3,7 @@ pub mod AnswersShown
 pub mod Asked
 pub mod Codes
 pub mod DumpsHeld
+pub mod Expecting
 pub mod Lending
 pub mod Listens
 pub mod Named

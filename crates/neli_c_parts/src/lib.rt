@@ -7,6 +7,7 @@
 //!   [`router_opaque`] are how C holds that.
 //! - [`asking`] is a request, and [`dumping`] what a dump holds that answers one: [`dump_place`] and [`dump_opaque`]
 //!   are how C holds that.
+//! - [`expecting`] is how a request is answered.
 //! - [`families`] are tables: [`tables_place`] and [`tables_opaque`] are how C holds them. [`tabling`] adds to them,
 //!   [`printing`] prints messages by them, and [`naming`] finds attributes by name and what is wrong with them.
 //! - [`named`] has the items of a walk by name, and [`room`] writes a text into bytes that may be too few for it.
@@ -21,6 +22,7 @@ pub mod code;
 pub mod dump_opaque;
 pub mod dump_place;
 pub mod dumping;
+pub mod expecting;
 pub mod families;
 pub mod laws;
 pub mod lending;
