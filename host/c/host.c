@@ -115,6 +115,15 @@ static bool are_same(const struct owners *one, const struct owners *other) {
            one->is_unasked == other->is_unasked && one->handle == other->handle;
 }
 
+/* Sets NLM_F_MULTI in a held message of a dump, as of the family netdev, which leaves it out: without it the router
+ * would take the dump's first message for the whole answer. */
+static void mark_part(const struct neli_host *host, size_t place, const struct open *open,
+                      const struct neli_message *message) {
+    uint16_t flags = message->flags | NLM_F_MULTI;
+    if (open == NULL || open->answering != NELI_ANSWERING_DUMP || message->type < NLMSG_MIN_TYPE) return;
+    memcpy(host->link.room + place + offsetof(struct nlmsghdr, nlmsg_flags), &flags, sizeof flags);
+}
+
 /* The next held messages with one receiver. */
 static struct run next_run(const struct neli_host *host) {
     struct neli_walk walk = host->held.walk;
@@ -130,6 +139,7 @@ static struct run next_run(const struct neli_host *host) {
         const struct open *open = ledger_request(&host->ledger, &message, host->held.group);
         struct owners owners = owners_of(host, open, &message);
         if (run.count > 0 && !are_same(&owners, &run.owners)) break;
+        mark_part(host, run.end, open, &message);
         run.owners = owners;
         run.count++;
         run.end = walk.place;
@@ -221,24 +231,37 @@ int32_t host_settle(struct neli_host *host) {
 
 /* ---- Requests ---- */
 
+/* The router knows a dump by both bits of NLM_F_DUMP; the kernel gets those that were requested. */
+int32_t host_write(struct neli_host *host, uint32_t answering, const struct neli_host_request *request, uint8_t *out,
+                   size_t room, struct neli_sent *sent) {
+    uint16_t added = answering == NELI_ANSWERING_DUMP ? NLM_F_DUMP & ~request->flags : 0, flags;
+    int32_t code = neli_router_send(&host->router, request->type, request->flags | added, request->body,
+                                    request->length, out, room, sent);
+    if (code != NELI_OK || added == 0) return code;
+    memcpy(&flags, out + offsetof(struct nlmsghdr, nlmsg_flags), sizeof flags);
+    flags &= (uint16_t)~added;
+    memcpy(out + offsetof(struct nlmsghdr, nlmsg_flags), &flags, sizeof flags);
+    return NELI_OK;
+}
+
 /* A request, in `request`. */
-static int32_t write_request(struct neli_host *host, uint16_t type, uint16_t flags, const void *body, size_t length,
+static int32_t write_request(struct neli_host *host, uint32_t answering, const struct neli_host_request *request,
                              struct neli_sent *sent) {
-    int32_t code = neli_router_send(&host->router, type, flags, body, length, host->request, host->request_room, sent);
+    int32_t code = host_write(host, answering, request, host->request, host->request_room, sent);
     if (code != NELI_ROOM) return code;
     if (!is_grown(&host->request, &host->request_room, sent->length)) return NELI_MEMORY;
-    return neli_router_send(&host->router, type, flags, body, length, host->request, host->request_room, sent);
+    return host_write(host, answering, request, host->request, host->request_room, sent);
 }
 
 int32_t neli_host_send(struct neli_host *host, uint16_t type, uint16_t flags, const void *body, size_t length,
                        size_t *handle) {
+    struct neli_host_request request = {type, flags, body, length};
     struct neli_sent sent;
-    uint32_t number;
+    uint32_t number, answering = ledger_answering(&host->ledger, type, flags, length);
+    bool settles = answering == NELI_ANSWERING_DUMP || host->ledger.is_congested || host->ledger.count > CROWD;
     int32_t code = ledger_reserve(&host->ledger, 1);
-    bool is_dump = ledger_is_dump(&host->ledger, type, flags);
-    if (code == NELI_OK &&
-        (is_dump || host->ledger.is_congested || host->ledger.count > CROWD)) code = host_settle(host);
-    if (code == NELI_OK) code = write_request(host, type, flags, body, length, &sent);
+    if (code == NELI_OK && settles) code = host_settle(host);
+    if (code == NELI_OK) code = write_request(host, answering, &request, &sent);
     if (code != NELI_OK) return code;
     memcpy(&number, host->request + offsetof(struct nlmsghdr, nlmsg_seq), sizeof number);
     if (ledger_number(&host->ledger, number) != NULL) {
@@ -250,7 +273,7 @@ int32_t neli_host_send(struct neli_host *host, uint16_t type, uint16_t flags, co
         neli_router_close(&host->router, sent.handle);
         return failed(host, host->link.fault);
     }
-    ledger_add(&host->ledger, number, flags, is_dump, sent.handle);
+    ledger_add(&host->ledger, number, flags, answering, sent.handle);
     *handle = sent.handle;
     return NELI_OK;
 }

@@ -54,6 +54,11 @@ struct neli_host {
 int32_t host_begin(struct neli_host *host, int family, const uint32_t *groups, size_t count);
 void host_end(struct neli_host *host);
 
+/* Writes a request that is answered so: neli_router_send, but that a dump waits for no acknowledgement, also where one
+ * was requested and only one bit of NLM_F_DUMP is set. */
+int32_t host_write(struct neli_host *host, uint32_t answering, const struct neli_host_request *request, uint8_t *out,
+                   size_t room, struct neli_sent *sent);
+
 /* Takes in all that has arrived, until no dump runs, given-up requests have their answers, and nothing is dropped any
  * more. */
 int32_t host_settle(struct neli_host *host);

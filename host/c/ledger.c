@@ -8,14 +8,8 @@ void ledger_free(struct ledger *ledger) {
     *ledger = (struct ledger){.is_settled = true};
 }
 
-bool ledger_is_dump(const struct ledger *ledger, uint16_t type, uint16_t flags) {
-    struct nlmsghdr header = {.nlmsg_len = sizeof header, .nlmsg_type = type, .nlmsg_flags = flags | NLM_F_REQUEST};
-    struct neli_walk walk = {0, sizeof header};
-    struct neli_request request;
-    uint8_t bytes[sizeof header];
-    memcpy(bytes, &header, sizeof header);
-    if (neli_next_request(bytes, sizeof bytes, &walk, ledger->port, &request) != NELI_ITEM) return false;
-    return (ledger->family == NETLINK_ROUTE ? request.wants_routing_dump : request.wants_dump) != 0;
+uint32_t ledger_answering(const struct ledger *ledger, uint16_t type, uint16_t flags, size_t length) {
+    return neli_answering(ledger->family, type, flags, length);
 }
 
 int32_t ledger_reserve(struct ledger *ledger, size_t count) {
@@ -28,10 +22,10 @@ int32_t ledger_reserve(struct ledger *ledger, size_t count) {
     return NELI_OK;
 }
 
-void ledger_add(struct ledger *ledger, uint32_t number, uint16_t flags, bool is_dump, size_t handle) {
-    struct open open = {.number = number, .flags = flags, .is_dump = is_dump, .handle = handle};
+void ledger_add(struct ledger *ledger, uint32_t number, uint16_t flags, uint32_t answering, size_t handle) {
+    struct open open = {.number = number, .flags = flags, .answering = answering, .handle = handle};
     ledger->open[ledger->count++] = open;
-    if (is_dump) ledger->is_settled = false;
+    if (answering == NELI_ANSWERING_DUMP) ledger->is_settled = false;
 }
 
 struct open *ledger_number(const struct ledger *ledger, uint32_t number) {
@@ -74,7 +68,7 @@ void ledger_note_quiet(struct ledger *ledger) {
     for (size_t i = ledger->count; i-- > 0;) {
         struct open *open = &ledger->open[i];
         if (open->is_given_up) take_out(ledger, open);
-        else if (open->is_dump) open->is_ended = true;
+        else if (open->answering == NELI_ANSWERING_DUMP) open->is_ended = true;
     }
     ledger->is_settled = true;
 }
@@ -86,7 +80,5 @@ struct open *ledger_request(const struct ledger *ledger, const struct neli_messa
 }
 
 bool ledger_ends(const struct open *open, const struct neli_message *message) {
-    bool awaits_ack = (open->flags & NLM_F_ACK) != 0 && !open->is_dump;
-    if (message->type == NLMSG_ERROR || message->type == NLMSG_DONE) return true;
-    return (message->flags & NLM_F_MULTI) == 0 && !awaits_ack;
+    return neli_ends_answer(open->answering, message->type, message->flags) != 0;
 }

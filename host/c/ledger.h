@@ -8,10 +8,10 @@
 struct open {
     uint32_t number;
     uint16_t flags;
-    bool is_dump;     /* whether the kernel answers it by a dump */
-    bool is_given_up; /* whether nobody reads its answer any more; its handle is closed then */
-    bool is_ended;    /* whether the kernel has sent the last message of its answer */
-    int fault;        /* the first fault of the socket since it was sent, which ends an answer; or 0 */
+    uint32_t answering; /* how the kernel answers it, of enum neli_answering */
+    bool is_given_up;   /* whether nobody reads its answer any more; its handle is closed then */
+    bool is_ended;      /* whether the kernel has sent the last message of its answer */
+    int fault;          /* the first fault of the socket since it was sent, which ends an answer; or 0 */
     size_t handle;
 };
 
@@ -35,12 +35,11 @@ void ledger_free(struct ledger *ledger);
 /* Makes room for so many more requests, or returns NELI_MEMORY. */
 int32_t ledger_reserve(struct ledger *ledger, size_t count);
 
-/* Whether the kernel answers a request of this type with these flags by a dump: in routing a get with either bit of
- * NLM_F_DUMP, else any with both. */
-bool ledger_is_dump(const struct ledger *ledger, uint16_t type, uint16_t flags);
+/* How the kernel answers a request of this type with these flags and a body of this length, of enum neli_answering. */
+uint32_t ledger_answering(const struct ledger *ledger, uint16_t type, uint16_t flags, size_t length);
 
 /* Notes a sent request, for which there is room. */
-void ledger_add(struct ledger *ledger, uint32_t number, uint16_t flags, bool is_dump, size_t handle);
+void ledger_add(struct ledger *ledger, uint32_t number, uint16_t flags, uint32_t answering, size_t handle);
 
 /* The request with this number, or that with this open handle; NULL if there is none. */
 struct open *ledger_number(const struct ledger *ledger, uint32_t number);

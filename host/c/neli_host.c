@@ -71,6 +71,10 @@ struct batch {
     uint32_t first; /* the number of the first */
 };
 
+static uint32_t answering_of(const struct neli_host *host, const struct neli_host_request *request) {
+    return ledger_answering(&host->ledger, request->type, request->flags, request->length);
+}
+
 /* Writes one more request, for which the room grows. */
 static int32_t write_next(struct neli_host *host, const struct neli_host_request *request, struct batch *batch) {
     struct neli_sent sent;
@@ -78,8 +82,7 @@ static int32_t write_next(struct neli_host *host, const struct neli_host_request
     for (bool has_grown = false;; has_grown = true) {
         uint8_t *out = host->request != NULL ? host->request + batch->used : NULL;
         size_t room = host->request_room - batch->used;
-        int32_t code = neli_router_send(&host->router, request->type, request->flags, request->body, request->length,
-                                        out, room, &sent);
+        int32_t code = host_write(host, answering_of(host, request), request, out, room, &sent);
         if (code == NELI_OK) break;
         if (code != NELI_ROOM || has_grown) return code;
         uint8_t *grown = realloc(host->request, batch->used + sent.length);
@@ -104,7 +107,7 @@ int32_t neli_host_send_all(struct neli_host *host, const struct neli_host_reques
                            size_t *handles) {
     struct batch batch = {.handles = handles};
     size_t dumps = 0;
-    for (size_t i = 0; i < count; i++) dumps += ledger_is_dump(&host->ledger, requests[i].type, requests[i].flags);
+    for (size_t i = 0; i < count; i++) dumps += answering_of(host, &requests[i]) == NELI_ANSWERING_DUMP;
     if (dumps > 1) return NELI_KIND;
     if (count == 0) return NELI_OK;
     int32_t code = ledger_reserve(&host->ledger, count);
@@ -117,8 +120,8 @@ int32_t neli_host_send_all(struct neli_host *host, const struct neli_host_reques
         return code;
     }
     for (size_t i = 0; i < count; i++) {
-        bool is_dump = ledger_is_dump(&host->ledger, requests[i].type, requests[i].flags);
-        ledger_add(&host->ledger, batch.first + (uint32_t)i, requests[i].flags, is_dump, handles[i]);
+        uint32_t answering = answering_of(host, &requests[i]);
+        ledger_add(&host->ledger, batch.first + (uint32_t)i, requests[i].flags, answering, handles[i]);
     }
     return NELI_OK;
 }

@@ -20,7 +20,8 @@ import os
 import struct
 
 import neli
-from neli import END, ITEM, KERNEL_ERROR, KIND, LINK, MULTICAST, NLM_F_ACK, OK, ROOM, WAITS
+from neli import ANSWERING_DUMP, END, ITEM, KERNEL_ERROR, KIND, LINK, MULTICAST, NLM_F_ACK, NLM_F_MULTI
+from neli import NLMSG_MIN_TYPE, OK, ROOM, WAITS
 
 __all__ = ["SimulatedSocket", "Request", "requests", "notification"]
 
@@ -51,6 +52,7 @@ def _library():
     pointer, size, u16, u32 = ctypes.c_void_p, ctypes.c_size_t, ctypes.c_uint16, ctypes.c_uint32
     i32, slice_of, room = ctypes.c_int32, [ctypes.c_char_p, size], [pointer, size, pointer]
     calls = {
+        "neli_c_answering": [i32, u16, u16, size],
         "neli_c_router_new": [pointer, u32],
         "neli_c_router_free": [pointer],
         "neli_c_router_send": [pointer, u16, u16, *slice_of, *room],
@@ -169,6 +171,18 @@ def requests(data, port):
         found.append(Request(data, read))
 
 
+def _as_parts(datagram, number):
+    """The datagram with NLM_F_MULTI in each message of a dump of this number, as the C layer sets it."""
+    data, walk, read = bytearray(datagram), neli._Walk(0, len(datagram)), neli._Message()
+    while True:
+        place = walk.place
+        code = _lib.neli_c_next_message(datagram, len(datagram), ctypes.byref(walk), ctypes.byref(read))
+        if code != ITEM:
+            return bytes(data)
+        if read.number == number and read.type >= NLMSG_MIN_TYPE:
+            struct.pack_into("=H", data, place + 6, read.flags | NLM_F_MULTI)
+
+
 def notification(msg_type, body=b"", msg_flags=0, number=0, port=0):
     """What groups get; number and port are those of the request that caused it, or 0.
 
@@ -223,9 +237,10 @@ class SimulatedSocket(neli._Socket):
         """Sends a request, which `serve` answers, and returns its Reply; refused as that of a NetlinkSocket."""
         neli._fit(16, msg_type, msg_flags)
         reply, sent = self._call(self._send, msg_type, msg_flags, bytes(body))
+        is_dump = self._is_dump(msg_type, msg_flags, body)
         for request in requests(sent, self._port):
             for datagram in self._serve(request):
-                self.deliver(datagram)
+                self.deliver(_as_parts(datagram, request.sequence_number) if is_dump else datagram)
         return reply
 
     def request_all(self, requests):
@@ -234,14 +249,13 @@ class SimulatedSocket(neli._Socket):
         for kind, flags, _ in requests:
             neli._fit(16, kind, flags)
         self._opened()
-        if sum(self._is_dump(kind, flags) for kind, flags, _ in requests) > 1:
+        if sum(self._is_dump(*it) for it in requests) > 1:
             raise self._error(KIND)
         return [self.request(*it) for it in requests]
 
-    def _is_dump(self, msg_type, msg_flags):
-        """Whether a kernel answers it by a dump: in routing a get with either bit of DUMP, else any with both."""
-        (read,) = requests(struct.pack("=IHHII", 16, msg_type, msg_flags | neli.NLM_F_REQUEST, 0, 0), self._port)
-        return read.wants_routing_dump if self.family == neli.NETLINK_ROUTE else read.wants_dump
+    def _is_dump(self, msg_type, msg_flags, body):
+        """Whether a kernel answers it by a dump."""
+        return _lib.neli_c_answering(self.family, msg_type, msg_flags, len(body)) == ANSWERING_DUMP
 
     def _send(self, msg_type, msg_flags, body):
         sent, out = _Sent(), ctypes.create_string_buffer(len(body) + 32)

@@ -32,6 +32,9 @@ pub const BYTES: i32 = -12;
 pub const KIND: i32 = -15;
 pub const TABLE: i32 = -17;
 
+/// `NELI_ANSWERING_DUMP` of `enum neli_answering`.
+pub const ANSWERING_DUMP: u32 = 0;
+
 // What Linux 6.1 added to an extended acknowledgement.
 pub const ANSWER_MISSING: u16 = 5;
 pub const ANSWER_MISSING_NEST: u16 = 6;
@@ -147,6 +150,8 @@ unsafe extern "C" {
         count: *mut usize,
     ) -> i32;
     fn neli_c_get_answer(bytes: *const u8, length: usize, message: *const Message, answer: *mut Answer) -> i32;
+    fn neli_c_answering(protocol: i32, kind: u16, flags: u16, body_length: usize) -> u32;
+    fn neli_c_ends_answer(answering: u32, kind: u16, flags: u16) -> i32;
     fn neli_c_begin_message(
         out: *mut u8,
         room: usize,
@@ -224,6 +229,18 @@ pub fn next_attributes<'a>(bytes: &[u8], walk: &mut Walk, room: &'a mut [Attribu
 pub fn get_answer(bytes: &[u8], message: &Message, answer: &mut Answer) -> i32 {
     // SAFETY: pointer and length are those of one slice, and the others are borrows, that of `answer` exclusive.
     unsafe { neli_c_get_answer(bytes.as_ptr(), bytes.len(), message, answer) }
+}
+
+/// How the kernel answers a request with a body of this length, of `enum neli_answering`.
+pub fn answering(protocol: i32, kind: u16, flags: u16, body_length: usize) -> u32 {
+    // SAFETY: no pointer is passed.
+    unsafe { neli_c_answering(protocol, kind, flags, body_length) }
+}
+
+/// Whether such an answer ends with a message of this type and with these flags.
+pub fn ends_answer(answering: u32, kind: u16, flags: u16) -> bool {
+    // SAFETY: no pointer is passed.
+    unsafe { neli_c_ends_answer(answering, kind, flags) != 0 }
 }
 
 /// Begins a message at the writer's end.

@@ -82,8 +82,13 @@ fn calls_are_declared_as_in_the_header() {
     for call in DECLARED.split("fn neli_c_").skip(1) {
         let (name, rest) = call.split_once('(').expect("a call has parameters");
         let (parameters, rest) = rest.split_once(')').expect("which end");
-        assert!(rest.starts_with(" -> i32;"), "{name}");
-        let declaration = format!("\nint32_t neli_c_{name}(");
+        let (result, _) = rest.split_once(';').expect("and a result");
+        let in_c = match result {
+            " -> i32" => "int32_t",
+            " -> u32" => "uint32_t",
+            other => panic!("{name}{other}"),
+        };
+        let declaration = format!("\n{in_c} neli_c_{name}(");
         let (_, rest) = HEADER.split_once(&declaration).expect("the header has the call");
         let (in_header, _) = rest.split_once(')').expect("whose parameters end");
         assert_eq!(types_in_rust(parameters), types_in_c(in_header), "{name}");
@@ -98,6 +103,7 @@ fn codes_are_those_of_the_header() {
         let line = format!("    {name} = {code}");
         assert!(HEADER.contains(&format!("{line},")) || HEADER.contains(&format!("{line} ")), "{name}");
     }
+    assert!(HEADER.contains(&format!("NELI_ANSWERING_DUMP = {},", super::ANSWERING_DUMP)));
     let attributes =
         [("NELI_ANSWER_MISSING", super::ANSWER_MISSING), ("NELI_ANSWER_MISSING_NEST", super::ANSWER_MISSING_NEST)];
     for (name, number) in attributes {

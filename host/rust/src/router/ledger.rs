@@ -4,24 +4,28 @@ use super::state::Fault;
 use crate::consts::nl::NlmF;
 use crate::consts::socket::NlFamily;
 use crate::ffi;
-use crate::ffi::kernel::{Request, next_request};
 use std::collections::HashMap;
 
-/// Types of messages: an error or an acknowledgement, and the end of a dump.
-const ERROR: u16 = 2;
-const DONE: u16 = 3;
+/// Types of control messages are below this (`NLMSG_MIN_TYPE`).
+const MIN_TYPE: u16 = 16;
 
-/// Whether the kernel answers a request of this type with these flags by a dump: in routing a get with either bit of
-/// DUMP, else any with both.
-pub(super) fn is_dump(family: NlFamily, kind: u16, flags: NlmF) -> bool {
-    let mut header = [0; 16];
-    header[..4].copy_from_slice(&16u32.to_ne_bytes());
-    header[4..6].copy_from_slice(&kind.to_ne_bytes());
-    header[6..8].copy_from_slice(&(flags | NlmF::REQUEST).bits().to_ne_bytes());
-    let mut request = Request::default();
-    next_request(&header, &mut ffi::Walk { place: 0, end: 16 }, 0, &mut request);
-    let wanted = if family == NlFamily::Route { request.wants_routing_dump } else { request.wants_dump };
-    wanted != 0
+/// How the kernel answers a request, by the library's table: a number of `enum neli_answering`.
+#[derive(Clone, Copy, Debug, PartialEq, Eq)]
+pub(super) struct Answering(u32);
+
+impl Answering {
+    /// Of a request of this family, with a body of this length.
+    pub(super) fn of(family: NlFamily, kind: u16, flags: NlmF, length: usize) -> Self {
+        Answering(ffi::answering(family.into(), kind, flags.bits(), length))
+    }
+
+    pub(super) fn is_dump(self) -> bool {
+        self.0 == ffi::ANSWERING_DUMP
+    }
+
+    fn ends_with(self, message: &ffi::Message) -> bool {
+        ffi::ends_answer(self.0, message.kind, message.flags)
+    }
 }
 
 /// A request that the kernel may still answer, or whose handle is open.
@@ -30,20 +34,11 @@ struct Open {
     /// The handle of the library's router; none if the answer is no longer read.
     handle: Option<usize>,
     flags: NlmF,
-    /// Whether the kernel answers it by a dump.
-    is_dump: bool,
+    answering: Answering,
     /// Whether the kernel has sent the last message of its answer.
     is_ended: bool,
     /// The first fault of the link since it was sent, which ends an answer.
     fault: Option<Fault>,
-}
-
-impl Open {
-    /// Whether this message is the last one of the answer.
-    fn ends_with(&self, message: &ffi::Message) -> bool {
-        let awaits_ack = self.flags.contains(NlmF::ACK) && !self.is_dump;
-        matches!(message.kind, ERROR | DONE) || (message.flags & NlmF::MULTI.bits() == 0 && !awaits_ack)
-    }
 }
 
 /// The receiver of a message. None, if its request was given up.
@@ -89,9 +84,9 @@ impl Ledger {
     }
 
     /// A request was sent.
-    pub(super) fn add(&mut self, number: u32, handle: usize, flags: NlmF, is_dump: bool) {
-        let open = Open { handle: Some(handle), flags, is_dump, is_ended: false, fault: None };
-        self.is_settled &= !is_dump;
+    pub(super) fn add(&mut self, number: u32, handle: usize, flags: NlmF, answering: Answering) {
+        let open = Open { handle: Some(handle), flags, answering, is_ended: false, fault: None };
+        self.is_settled &= !answering.is_dump();
         self.open.insert(number, open);
     }
 
@@ -140,7 +135,7 @@ impl Ledger {
             return;
         }
         self.open.retain(|_, it| it.handle.is_some());
-        for dump in self.open.values_mut().filter(|it| it.is_dump) {
+        for dump in self.open.values_mut().filter(|it| it.answering.is_dump()) {
             dump.is_ended = true;
         }
     }
@@ -165,7 +160,12 @@ impl Ledger {
 
     /// Whether a message is the last one of its request's answer.
     pub(super) fn ends(&self, message: &ffi::Message, group: u32) -> bool {
-        self.answered(message, group).is_some_and(|it| it.ends_with(message))
+        self.answered(message, group).is_some_and(|it| it.answering.ends_with(message))
+    }
+
+    /// Whether a message is one of a dump, before its end.
+    pub(super) fn is_part(&self, message: &ffi::Message, group: u32) -> bool {
+        message.kind >= MIN_TYPE && self.answered(message, group).is_some_and(|it| it.answering.is_dump())
     }
 
     /// The answer of this request has ended.

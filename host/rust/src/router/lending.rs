@@ -1,6 +1,5 @@
 //! A router that lends: each item is read where the library keeps it, and no byte is copied.
 
-use super::ledger::is_dump;
 use super::state::{Lend, MULTICAST, State};
 use super::verdict::Verdict;
 use crate::ToBytes;
@@ -122,7 +121,7 @@ impl<L: Link + 'static> LendingRouter<L> {
         nl_payload: NlPayload<T, P>,
     ) -> Result<LendingHandle, RouterError> {
         let (kind, body) = (nl_type.into(), nl_payload.body()?);
-        self.state.settle(is_dump(self.link.family(), kind, nl_flags))?;
+        self.state.settle(self.state.answering(kind, nl_flags, &body).is_dump())?;
         let (bytes, number, handle) = self.state.request(kind, nl_flags, &body)?;
         if let Err(error) = self.link.send(&bytes) {
             self.state.take_back(number);

@@ -1,6 +1,5 @@
 //! The state that a router and its handles share, and their waits.
 
-use super::ledger::is_dump;
 use super::state::{State, Step};
 use crate::consts::nl::NlmF;
 use crate::err::{RouterError, SocketError};
@@ -29,8 +28,8 @@ impl Shared {
     /// Sends a request, and returns its number and its handle. The kernel runs one dump on a socket at a time, so a
     /// dump is sent when the one before has ended.
     pub(super) fn send(&self, kind: u16, flags: NlmF, body: &[u8]) -> Result<(u32, usize), RouterError> {
-        let is_dump = is_dump(self.link.family(), kind, flags);
         let mut state = self.state();
+        let is_dump = state.answering(kind, flags, body).is_dump();
         state.settle(is_dump)?;
         let (bytes, number, handle) = state.request(kind, flags, body)?;
         let sent = if is_dump {

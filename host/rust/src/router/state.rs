@@ -1,6 +1,6 @@
 //! The state of a router: it takes in datagrams and faults of the link, and each handle reads its share.
 
-use super::ledger::{Ledger, Owners, is_dump};
+use super::ledger::{Answering, Ledger, Owners};
 use super::verdict::Verdict;
 use crate::consts::nl::NlmF;
 use crate::err::{RouterError, SocketError, refused};
@@ -173,9 +173,10 @@ impl State {
         flags: NlmF,
         body: &[u8],
     ) -> Result<(Vec<u8>, u32, usize), RouterError> {
+        let answering = self.answering(kind, flags, body);
         let mut out = vec![0; 16 + body.len().next_multiple_of(4)];
         let mut sent = ffi::Sent::default();
-        match self.router.send(kind, flags.bits(), body, &mut out, &mut sent) {
+        match self.write(answering, kind, flags, body, &mut out, &mut sent) {
             ffi::END => {}
             ffi::MEMORY => return Err(RouterError::Memory),
             ffi::IN_USE => return Err(RouterError::SeqInUse),
@@ -187,8 +188,33 @@ impl State {
             self.router.set_number(number);
             return Err(RouterError::SeqInUse);
         }
-        self.ledger.add(number, sent.handle, flags, is_dump(self.link.family(), kind, flags));
+        self.ledger.add(number, sent.handle, flags, answering);
         Ok((out, number, sent.handle))
+    }
+
+    /// How the kernel answers a request of this type with these flags and this body.
+    pub(super) fn answering(&self, kind: u16, flags: NlmF, body: &[u8]) -> Answering {
+        Answering::of(self.link.family(), kind, flags, body.len())
+    }
+
+    /// Writes a request that is answered so: as the library's router writes it, but that a dump waits for no
+    /// acknowledgement, also where one was requested and only one bit of DUMP is set. That router knows a dump by both
+    /// bits; the kernel gets those that were requested.
+    fn write(
+        &mut self,
+        answering: Answering,
+        kind: u16,
+        flags: NlmF,
+        body: &[u8],
+        out: &mut [u8],
+        sent: &mut ffi::Sent,
+    ) -> i32 {
+        let added = if answering.is_dump() { NlmF::DUMP.bits() & !flags.bits() } else { 0 };
+        let code = self.router.send(kind, flags.bits() | added, body, out, sent);
+        if let (ffi::END, Some([_, _, _, _, _, _, low, high, ..])) = (code, out.get_mut(..16)) {
+            [*low, *high] = (u16::from_ne_bytes([*low, *high]) & !added).to_ne_bytes();
+        }
+        code
     }
 
     /// This request is no longer read.
@@ -300,7 +326,7 @@ impl State {
     }
 
     /// The next held messages with the same receivers.
-    fn next_run(&self, walk: ffi::Walk, group: u32) -> Run {
+    fn next_run(&mut self, walk: ffi::Walk, group: u32) -> Run {
         let mut run =
             Run { bytes: walk.place..walk.place, count: 0, owners: Owners::default(), is_fault: false, ended: None };
         let mut next = walk;
@@ -315,6 +341,9 @@ impl State {
             let owners = if is_message { self.ledger.owners(&message, group, is_joined) } else { Owners::default() };
             if run.count > 0 && (!is_message || owners != run.owners) {
                 return run;
+            }
+            if is_message && self.ledger.is_part(&message, group) {
+                mark_part(&mut self.room[run.bytes.end..], message.flags);
             }
             run.owners = owners;
             run.count += u64::from(is_message);
@@ -590,6 +619,12 @@ fn taken(code: i32) -> Result<(), RouterError> {
         ffi::MEMORY => Err(RouterError::Memory),
         code => Err(RouterError::De(refused(code).into())),
     }
+}
+
+/// Sets MULTI in the header of a dump's message, as of the family netdev, which leaves it out: without it the library's
+/// router would take the dump's first message for the whole answer.
+fn mark_part(message: &mut [u8], flags: u16) {
+    message[6..8].copy_from_slice(&(flags | NlmF::MULTI.bits()).to_ne_bytes());
 }
 
 /// Completes the padding of a datagram's last message, which a sender may leave out: returns the datagram's end.

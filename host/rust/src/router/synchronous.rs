@@ -4,7 +4,7 @@
 //! threads can read handles of one router at a time: one of them waits at the socket, the others until their handles
 //! have something.
 
-use super::ledger::is_dump;
+use super::ledger::Answering;
 pub use super::notice::{Missed, Notice};
 use super::shared::Shared;
 use super::state::{MULTICAST, UNASKED};
@@ -198,7 +198,9 @@ impl<L: Link + 'static> NlRouter<L> {
             written.push((nl_type.into(), nl_flags, nl_payload.body()?));
         }
         let family = self.link.family();
-        if written.iter().filter(|(kind, flags, _)| is_dump(family, *kind, *flags)).count() > 1 {
+        let is_dump =
+            |(kind, flags, body): &&(u16, NlmF, Vec<u8>)| Answering::of(family, *kind, *flags, body.len()).is_dump();
+        if written.iter().filter(is_dump).count() > 1 {
             return Err(RouterError::new("two dumps in one datagram"));
         }
         let sent = self.shared.send_all(&written)?;

@@ -1,5 +1,6 @@
 //! The crate against the kernel of this machine, each test in a network namespace of its own.
 
+mod dumps;
 mod lent;
 mod links;
 mod space;
@@ -17,6 +18,7 @@ use neli::consts::socket::NlFamily;
 use neli::err::{RouterError, SocketError};
 use neli::nl::{NlPayload, NlmsghdrBuilder};
 use neli::recording::{Recorder, Recording};
+use neli::router::lending::LendingRouter;
 use neli::router::synchronous::{NlRouter, NlRouterReceiverHandle, Notice};
 use neli::rtnl::{Ifinfomsg, RtattrBuilder};
 use neli::socket::synchronous::NlSocketHandle;
@@ -29,6 +31,7 @@ use std::thread;
 use std::time::Duration;
 
 const ENODEV: i32 = 19;
+const EINVAL: i32 = 22;
 const EOPNOTSUPP: i32 = 95;
 const ENOBUFS: i32 = 105;
 
@@ -118,6 +121,22 @@ fn two_requests_are_read_in_the_other_order() {
         let (first, second) = (asked(&router, 1), asked(&router, 4711));
         assert_eq!(refusal(second), Some(ENODEV));
         assert_eq!(names(first), ["lo"]);
+    });
+}
+
+/// The kernel echoes the request, whose body is shorter than that of a reply.
+#[test]
+fn a_short_request_is_refused_with_its_number() {
+    alone(|| {
+        let (router, _) = router(&[]);
+        let body = || NlPayload::Payload(Buffer::from(&[0; 4][..]));
+        for flags in [NlmF::empty(), NlmF::ACK] {
+            assert_eq!(refusal(router.send(Rtm::Getlink, flags, body()).expect("it is sent")), Some(EINVAL));
+        }
+        let connected = LendingRouter::connect(NlFamily::Route, None, Groups::empty());
+        let (mut router, _) = connected.expect("a router connects");
+        let handle = router.send(Rtm::Getlink, NlmF::ACK, body()).expect("it is sent");
+        assert_eq!(router.lend_next(&handle).expect_err("it is refused").errno(), Some(EINVAL));
     });
 }
 
