@@ -277,8 +277,9 @@ def kinds_by_ip(lines):
 def try_monitor(at):
     """Two hundred changes at once: as many of each kind as `ip monitor` prints."""
     ip("link", "add", "name", "one", "type", "veth", "peer", "name", "other")
-    ip("link", "set", "one", "up")
-    ip("link", "set", "other", "up")
+    for it in ("one", "other"):
+        # No address of IPv6 may appear between the beginnings of the two.
+        ip("link", "set", it, "addrgenmode", "none", "up")
     paths = f"{OUT}/monitored", f"{OUT}/monitored_by_ip"
     words = [f"{at}/monitor", "-j", "route", "nlctrl"], ["ip", "-o", "monitor", "label"]
     with open(paths[0], "w") as own, open(paths[1], "w") as other:
