@@ -13,6 +13,15 @@ use neli_consts::NlmF;
 use neli_consts_system::NlFamily;
 use neli_wire::Constant;
 
+/// The number of how a request of this family is answered.
+fn answering_in(family: NlFamily, nl_type: u16, flags: u16, body_length: usize) -> u32
+    ensures { result ≡ answering_number
+        (answering_of family nl_type (flags_of flags) body_length) }
+{
+    let flags = NlmF::from_wire(flags);
+    number_of(Answering::of(family, nl_type, flags, body_length))
+}
+
 /// Returns how a request is answered, as a number of `enum neli_answering`: one of this protocol, with this type, these
 /// flags, and a body of this length in bytes.
 #[unsafe(no_mangle)]
@@ -25,8 +34,7 @@ pub extern "C" fn neli_c_answering(
     ensures { result ≡ answering_number
         (answering_of (nl_family_of protocol) nl_type (flags_of flags) body_length) }
 {
-    let family = NlFamily::from(protocol);
-    number_of(Answering::of(family, nl_type, NlmF::from_wire(flags), body_length))
+    answering_in(NlFamily::from(protocol), nl_type, flags, body_length)
 }
 
 /// Returns 1 if an answer of this kind ends with a message of this type and with these flags, else 0.
