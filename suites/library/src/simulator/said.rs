@@ -3,9 +3,11 @@
 
 use super::support::{NOTHING, assert_bytes, decoded, ext_ack, request};
 use neli::consts::nl::NlmF;
+use neli::consts::socket::NlFamily;
+use neli::lent::LentMessages;
 use neli::nl::NlPayload;
 use neli::router::synchronous::{Log, NlRouter, NlRouterReceiverHandle, Reply};
-use neli::simulator::Request;
+use neli::simulator::{Answering, Request};
 use neli::types::Buffer;
 use neli::utils::Groups;
 use std::alloc::Global;
@@ -178,4 +180,33 @@ fn families_read_dump_by_their_own_rule(rt: HostRuntime) {
         let got = [request.wants_routing_dump(), request.wants_dump()];
         assert_eq!(rt; got, want, "at {row}");
     }
+}
+
+/// The recorded dump ends with its last message, though none has MULTI; with ACK in place of DUMP the same request would
+/// end with an error alone.
+#[test]
+fn a_recorded_dump_ends_where_its_answering_says(rt: HostRuntime) {
+    let asked = decoded(&rt, rt.alloc(), ASKED);
+    let request = request(&rt, PORT, asked.as_slice());
+    let dump = request.answering(NlFamily::Generic);
+    assert_eq!(rt; dump, Answering::Dump, "the request");
+    let other = Answering::of(NlFamily::Generic, 20, NlmF::REQUEST | NlmF::ACK, 4);
+    assert_eq!(rt; other, Answering::Acknowledgement, "with ACK");
+    let recorded = decoded(&rt, rt.alloc(), DEVICES);
+    let mut count = 0;
+    for message in LentMessages::<u16>::new(recorded.as_slice()) {
+        let message = message.expect(&rt, "a message");
+        let (nl_type, nl_flags) = (*message.nl_type(), *message.nl_flags());
+        assert_eq!(rt;
+            dump.ends_with(nl_type, nl_flags),
+            count == 3,
+            "message {count}"
+        );
+        assert!(rt;
+            !other.ends_with(nl_type, nl_flags),
+            "message {count}, with ACK"
+        );
+        count += 1;
+    }
+    assert_eq!(rt; count, 4, "messages");
 }
