@@ -10,7 +10,7 @@ ghost use Rattle.example_store.specs.Limited.{StaysWithin};
 use neli::consts::nl::NlType;
 use neli::err::{NoMemory, RouterError, SocketError};
 use neli::nl::Nlmsghdr;
-use neli::router::synchronous::{Deliveries, Log};
+use neli::router::synchronous::{Deliveries, Heading, Log};
 use neli::utils::Groups;
 use neli::{FromBytesWithInput, Size};
 use std::alloc::Global;
@@ -89,6 +89,10 @@ impl<const LIMIT: usize> Deliveries for Limited<LIMIT> {
         whose: Option<u32>,
     ) -> Result<Option<Result<Nlmsghdr<T, P>, RouterError<T, P>>>, NoMemory> {
         self.log.first(alloc, whose)
+    }
+
+    fn first_heading(&self, whose: Option<u32>) -> Option<Heading> {
+        self.log.first_heading(whose)
     }
 
     fn drop_first(&mut self, whose: Option<u32>) {

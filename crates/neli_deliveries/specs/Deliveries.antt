@@ -10,6 +10,8 @@ use Rattle.neli_reader.specs.SocketError.{SocketError}
 use Rattle.neli_reader.specs.SocketError.TheVariants as socket
 use Rattle.neli_deliveries.specs.declared.delivery.Delivery.{Delivery}
 use Rattle.neli_deliveries.specs.declared.delivery.Delivery.TheVariants as delivery
+use Rattle.neli_deliveries.specs.declared.delivery.Heading.{Heading}
+use Rattle.neli_deliveries.specs.declared.delivery.Heading.TheVariants as heading
 
 -- a message as stored: its type is its number, its body its bytes
 abbrev pub Untyped : Type 0
@@ -71,3 +73,8 @@ abbrev pub head_of : Option (List Delivery) → Option Delivery
 head_of None = None
 head_of (Some []) = None
 head_of (Some (d ∷ ds)) = Some d
+
+-- a delivery by its message's header: the type and the flags, of what is neither a stray nor a fault
+abbrev pub heading_of : Delivery → Heading
+heading_of (delivery.Message u) = heading.Message u.header.message_type u.header.flags
+heading_of d = heading.Other

@@ -6,9 +6,10 @@ ghost use Rattle.neli_reader.specs.Cuts.{cut_of};
 ghost use Rattle.neli_reader.specs.Agreement.{untyped_layout};
 ghost use Rattle.neli_deliveries.specs.Lists.{ListsGain, Opens, SameLists, SameListsBut};
 ghost use Rattle.neli_deliveries.specs.declared.delivery.Delivery.{Delivery as Waiting};
-ghost use Rattle.neli_deliveries.specs.Deliveries.{fault_share, head_of, is_would_block, datagram_share};
+ghost use Rattle.neli_deliveries.specs.Deliveries.{fault_share, head_of, heading_of, is_would_block, datagram_share};
 ghost use Rattle.neli_deliveries.specs.Readings.{FirstTakesMemory, IsFirst};
 
+use crate::Heading;
 use neli_consts::NlType;
 use neli_reader::{Nlmsghdr, RouterError, SocketError};
 use neli_util::Groups;
@@ -94,6 +95,10 @@ pub trait Deliveries: Sized + Drop {
         ensures nothing { head_of (pending self.now whose) ≡ None → IsOk result }
         ensures memory { OnErr result
             (FirstTakesMemory P.takes_memory (head_of (pending self.now whose))) };
+
+    /// The first delivery that waits, by its message's header; or that nothing waits. It takes no memory.
+    fn first_heading(&self, whose: Option<u32>) -> Option<Heading>
+        ensures { result ≡ option_map heading_of (head_of (pending self.now whose)) };
 
     /// Removes the first delivery that waits. It takes no memory.
     fn drop_first(&mut self, whose: Option<u32>)

@@ -1,6 +1,7 @@
 //! A delivery that waits for a handle.
 
 use neli_attr::Buffer;
+use neli_consts::NlmF;
 use neli_reader::{Nlmsghdr, SocketError};
 
 /// A delivery that waits for a handle until it is read.
@@ -13,4 +14,13 @@ pub enum Delivery {
     Stray(Nlmsghdr<u16, Buffer>),
     /// A datagram could not be read to its end, or the link failed. Each open number gets it.
     Fault(SocketError),
+}
+
+/// A delivery, by the header of its message.
+#[derive(Clone, Copy, Debug, PartialEq, Eq)]
+pub enum Heading {
+    /// A message for this handle only: its type and its flags.
+    Message(u16, NlmF),
+    /// A stray, or a fault.
+    Other,
 }

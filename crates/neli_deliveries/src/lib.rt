@@ -1,6 +1,7 @@
 //! Who gets what: the deliveries of a router, and what a store of them must keep.
 //!
 //! - [`Delivery`]: waits for a handle: a message of its own, a stray one, or a fault.
+//! - [`Heading`]: a delivery by the header of its message.
 //! - [`Deliveries`]: a list of these for each open sequence number, and one for multicast.
 //!
 //! `specs/Deliveries.antt` states which handles get a datagram or a fault of the link,
@@ -11,4 +12,4 @@ mod deliveries;
 mod delivery;
 
 pub use deliveries::Deliveries;
-pub use delivery::Delivery;
+pub use delivery::{Delivery, Heading};

@@ -4,6 +4,8 @@ use Rattle.neli_reader.specs.Framed.{Nlmsghdr}
 use Rattle.neli_lent.specs.Messages.{Lent, as_owned, message_view}
 use Rattle.neli_deliveries.specs.declared.delivery.Delivery.{Delivery}
 use Rattle.neli_deliveries.specs.declared.delivery.Delivery.TheVariants as delivery
+use Rattle.neli_deliveries.specs.declared.delivery.Heading.{Heading}
+use Rattle.neli_deliveries.specs.declared.delivery.Heading.TheVariants as heading
 use Rattle.neli_log.specs.declared.lending.LentDelivery.{LentDelivery}
 use Rattle.neli_log.specs.declared.lending.LentDelivery.TheVariants as lent
 
@@ -23,3 +25,8 @@ abbrev pub IsFirstLent : Option Delivery → Option LentDelivery → Type 0
 IsFirstLent None l = l ≡ None
 IsFirstLent (Some d) None = ⊥
 IsFirstLent (Some d) (Some l) = IsLent d l
+
+-- what is lent, by its message's header
+abbrev pub lent_heading : LentDelivery → Heading
+lent_heading (lent.Message m) = heading.Message m.header.message_type m.header.flags
+lent_heading l = heading.Other

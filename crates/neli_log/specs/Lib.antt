@@ -10,3 +10,4 @@ pub mod Next
 pub mod Staged
 pub mod Lending
 pub mod Ahead
+pub mod laws

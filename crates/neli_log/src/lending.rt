@@ -1,17 +1,19 @@
 //! Lent deliveries: a message stays where the log keeps its datagram.
 
+ghost use Rattle.std.specs.Prelude.{◌≡◌};
 ghost use Rattle.neli_reader.specs.Messages.{message_from};
 ghost use Rattle.neli_lent.specs.Messages.{message_view};
 ghost use Rattle.neli_lent.specs.Spans.{IsSpan, Spells};
 ghost use Rattle.neli_deliveries.specs.Deliveries.{Untyped, head_of};
 ghost use Rattle.neli_log.specs.Spans.{span_bytes};
 ghost use Rattle.neli_log.specs.Contents.{IsReadable, delivery_of};
-ghost use Rattle.neli_log.specs.Lending.{IsFirstLent, IsLent, Lends};
+ghost use Rattle.neli_log.specs.Lending.{IsFirstLent, IsLent, Lends, lent_heading};
 ghost use Rattle.neli_log.specs.Log.{IsTrimmedAndBacked, pending_of};
 
 use crate::Log;
 use crate::content::Content;
 use crate::store::Store;
+use neli_deliveries::Heading;
 use neli_lent::LentMessage;
 use neli_reader::SocketError;
 use neli_wire::Cursor;
@@ -26,6 +28,20 @@ pub enum LentDelivery<'b> {
     Stray(LentMessage<'b, u16>),
     /// A datagram could not be read to its end, or the link failed.
     Fault(&'b SocketError),
+}
+
+impl LentDelivery<'_> {
+    /// The delivery by its message's header.
+    pub fn heading(&self) -> Heading
+        ensures { result ≡ lent_heading self.now }
+    {
+        match self {
+            LentDelivery::Message(message) => {
+                Heading::Message(*message.nl_type(), *message.nl_flags())
+            }
+            _ => Heading::Other,
+        }
+    }
 }
 
 /// The message in a span's bytes.

@@ -11,7 +11,7 @@ ghost use Rattle.neli_log.specs.Log.{pending_of, routed_by, share_of};
 
 use crate::store::Store;
 use neli_consts::NlType;
-use neli_deliveries::Deliveries;
+use neli_deliveries::{Deliveries, Heading};
 use neli_reader::{Nlmsghdr, RouterError, SocketError};
 use neli_util::Groups;
 use neli_wire::{FromBytesWithInput, NoMemory, Size};
@@ -141,6 +141,13 @@ impl Deliveries for Log {
         whose: Option<u32>,
     ) -> Result<Option<Result<Nlmsghdr<T, P>, RouterError<T, P>>>, NoMemory> {
         self.store.first(alloc, whose)
+    }
+
+    fn first_heading(&self, whose: Option<u32>) -> Option<Heading> {
+        match self.lend_first(whose) {
+            None => None,
+            Some(delivery) => Some(delivery.heading()),
+        }
     }
 
     /// Adds no entry and no byte.

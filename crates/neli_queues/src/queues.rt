@@ -10,10 +10,10 @@ ghost use Rattle.neli_queues.specs.Queues.{AreDue, share_of_both, kept_port, pen
 
 use crate::appending::{Numbers, append_all, have_room};
 use crate::piece::Piece;
-use crate::reading::read;
+use crate::reading::{heading, read};
 use crate::staging::{listed, stage_each, stage_fault, stage_messages};
 use neli_consts::NlType;
-use neli_deliveries::{Deliveries, Delivery};
+use neli_deliveries::{Deliveries, Delivery, Heading};
 use neli_reader::{Nlmsghdr, RouterError, SocketError, cut};
 use neli_util::Groups;
 use neli_wire::{FromBytesWithInput, NoMemory, Size};
@@ -170,6 +170,11 @@ impl Deliveries for Queues {
             None => Ok(None),
             Some(delivery) => Ok(Some(read(alloc, delivery)?)),
         }
+    }
+
+    fn first_heading(&self, whose: Option<u32>) -> Option<Heading> {
+        let list = self.list(whose)?;
+        Some(heading(list.front()?))
     }
 
     fn drop_first(&mut self, whose: Option<u32>) {

@@ -1,12 +1,13 @@
 //! A delivery as the caller's types.
 
-ghost use Rattle.std.specs.Prelude.{IfOk, OnErr};
+ghost use Rattle.std.specs.Prelude.{◌≡◌, IfOk, OnErr};
+ghost use Rattle.neli_deliveries.specs.Deliveries.{heading_of};
 ghost use Rattle.neli_deliveries.specs.declared.delivery.Delivery.TheVariants as delivery;
 ghost use Rattle.neli_deliveries.specs.Readings.{IsReading, MessageTakesMemory, ReadingTakesMemory};
 
 use neli_attr::Buffer;
 use neli_consts::NlType;
-use neli_deliveries::Delivery;
+use neli_deliveries::{Delivery, Heading};
 use neli_reader::{Nlmsghdr, RouterError};
 use neli_wire::{FromBytesWithInput, NoMemory, Size};
 use std::alloc::Global;
@@ -43,5 +44,15 @@ pub(crate) fn read<T: NlType, P: FromBytesWithInput + Size>(
             Err(error) => Ok(Err(error)),
         },
         Delivery::Fault(error) => Ok(Err(RouterError::Socket(error.try_clone()?))),
+    }
+}
+
+/// A delivery by its message's header.
+pub(crate) fn heading(delivery: &Delivery) -> Heading
+    ensures { result ≡ heading_of delivery.now }
+{
+    match delivery {
+        Delivery::Message(message) => Heading::Message(*message.nl_type(), *message.nl_flags()),
+        _ => Heading::Other,
     }
 }
