@@ -8,7 +8,7 @@ use Rattle.neli_log.specs.declared.lending.LentDelivery.{LentDelivery}
 use Rattle.neli_router.proofs.LentItems.{after_step, lends_item, steps_past}
 use Rattle.neli_router.specs.Ahead.{Coming, LendsNext, after_next, at_end, before, coming_for, coming_of, item_at}
 use Rattle.neli_router.specs.Ahead.{at_wait, none_coming, not_open, passed}
-use Rattle.neli_router.specs.Lending.{LentItem, lent_item, lent_step, untyped}
+use Rattle.neli_router.specs.Lending.{LentItem, lent_item, lent_step}
 use Rattle.neli_router.specs.Rule.{has_number}
 use Rattle.neli_router.specs.declared.handle.HandleState.{HandleState}
 use Rattle.neli_router.specs.declared.lending.LentReply.TheVariants as reply
@@ -50,7 +50,7 @@ item_lent_ahead s n (d ∷ ds) ys r l got step a first rest is lent past new ope
     let waits : Option (List Delivery) = Some (d ∷ ds) in
     let come : before (item_at s d) (coming_of (passed s d) ds) ≡ a = sym (first_coming s d ds open_) ∙ view in
     let on : n ≡ passed s d =
-    after_step s n (untyped d) step (steps_past s waits r l step d ds first is past refl) new in (
+    after_step s n d step (steps_past s waits r l step d ds first is past refl) new in (
       subst (λ (x : Coming). LendsNext x (reply.Item got)) come (lends_item s waits r l got d ds first is lent refl),
       ap (λ (h : HandleState). coming_of h ys) on ∙ ap (coming_of (passed s d)) rest ∙ ap after_next come,
     )

@@ -20,9 +20,11 @@ use Rattle.neli_lent.specs.Messages.{Lent, message_view}
 use Rattle.neli_lent.specs.declared.message.LentMessage.{LentMessage}
 use Rattle.neli_deliveries.specs.declared.delivery.Delivery.{Delivery}
 use Rattle.neli_deliveries.specs.declared.delivery.Delivery.TheVariants as delivery
-use Rattle.neli_deliveries.specs.Deliveries.{head_of}
+use Rattle.neli_deliveries.specs.Deliveries.{head_of, heading_of}
+use Rattle.neli_deliveries.specs.declared.delivery.Heading.{Heading}
 use Rattle.neli_deliveries.specs.Readings.{Item}
-use Rattle.neli_log.specs.Lending.{IsFirstLent, IsLent, Lends}
+use Rattle.neli_log.specs.Lending.{IsFirstLent, IsLent, Lends, lent_heading}
+use Rattle.neli_log.specs.laws.Lending.{heading_lent}
 use Rattle.neli_log.specs.declared.lending.LentDelivery.{LentDelivery}
 use Rattle.neli_log.specs.declared.lending.LentDelivery.TheVariants as lent
 use Rattle.neli_router.specs.Lending.{IsErrorOf, IsLentItem, LentItem, code_or_zero, first_verdict, is_lent_flagged}
@@ -30,8 +32,7 @@ use Rattle.neli_router.specs.Lending.{lent_answers, lent_end_code, lent_ends, le
 use Rattle.neli_router.specs.Lending.{lent_last_verdict, lent_single, lent_step, lent_verdict, step_by, untyped}
 use Rattle.neli_router.specs.Lending.{with_step}
 use Rattle.neli_router.specs.Rule.{ends_at, has_number, is_answer, is_single, item_of, last_item, last_item_of_payload}
-use Rattle.neli_router.specs.Verdicts.{code_verdict, end_code, ends_exchange, heard_after, heard_with, is_flagged}
-use Rattle.neli_router.specs.Verdicts.{is_last}
+use Rattle.neli_router.specs.Verdicts.{code_verdict, end_code, heard_after, heard_with, is_flagged}
 use Rattle.neli_router.specs.Verdicts.{item_verdict, last_verdict, verdict_with}
 use Rattle.neli_router.specs.declared.handle.HandleState.{HandleState}
 use Rattle.neli_router.specs.declared.lending.LentError.TheVariants as error
@@ -232,9 +233,6 @@ module _ (m : Lent ℕ) (u : Nlmsghdr ℕ (List ℕ)) (lends : Lends m u) where
       → lent_ends needs numbered single m ≡ ends_at same needs numbered single (Ok u)
   ends-is needs numbered single = rw (answers-is, ← (one m u lends).header) refl
 
-  pub last-is : (needs numbered : Bool) → is_last same needs (Ok u) ≡ ends_exchange needs m.0.message_type m.0.flags
-  last-is needs numbered = rw (one m u lends).header refl
-
   pub flag-is : (flag : ℕ) → bit_and m.0.flags.0 flag ≡ bit_and u.header.flags.0 flag
   flag-is flag = ap (λ (h : Header ℕ). bit_and h.flags.0 flag) (one m u lends).header
 
@@ -317,41 +315,46 @@ first_with (stands.Lost why) ended item = refl
 -- ---- the step
 
 -- a step notes what the item adds
-noted : (ended last : Bool) (item : Item ℕ (List ℕ)) (l : LentItem) (single : Bool) (h : Heard) → IsLentItem item l
-    → with_step (step_by single ended last l) h ≡ heard_after ended last item h
-noted ended last item l single h is =
+noted : (ended : Bool) (heading : Heading) (item : Item ℕ (List ℕ)) (l : LentItem) (single : Bool) (h : Heard)
+    → IsLentItem item l → with_step (step_by single ended heading l) h ≡ heard_after ended heading item h
+noted ended heading item l single h is =
     rw (verdict_alike ended item l is, (alike item l is).flagged 32, first_with h.verdict ended item) refl
 
 -- the step past a delivery is that of the delivery read untyped
-pub record IsStep (needs numbered single : Bool) (item : Item ℕ (List ℕ)) (step : Step) : Type 0 where
-  pub single_is : step.single ≡ is_single same numbered item
-  pub ended_is : step.ended ≡ ends_at same needs numbered single item
-  pub heard_is : (h : Heard) → with_step step h ≡ heard_with same needs numbered single item h
+pub record IsStep (needs numbered single : Bool) (d : Delivery) (step : Step) : Type 0 where
+  pub single_is : step.single ≡ is_single same numbered (untyped d)
+  pub ended_is : step.ended ≡ ends_at same needs numbered single (untyped d)
+  pub heard_is : (h : Heard) → with_step step h ≡ heard_with same needs numbered single d (untyped d) h
+
+-- what it notes, where the delivery is lent
+stepped : (needs numbered single ended one : Bool) (d : Delivery) (l : LentDelivery) → IsLent d l
+    → ended ≡ ends_at same needs numbered single (untyped d) → (h : Heard)
+    → with_step (step_by one ended (lent_heading l) (lent_item needs numbered single l)) h
+    ≡ heard_with same needs numbered single d (untyped d) h
+stepped needs numbered single ended one d l is ends h =
+    let item = item_of same needs numbered single (untyped d) in
+    noted ended (lent_heading l) item (lent_item needs numbered single l) one h (item_lent needs numbered single d l is)
+    ∙ (ap (λ (k : Heading). heard_after ended k item h) (heading_lent d l is)
+    ∙ ap (λ (b : Bool). heard_after b (heading_of d) item h) ends)
 
 pub step_is : (needs numbered single : Bool) (d : Delivery) (l : LentDelivery) → IsLent d l
-    → IsStep needs numbered single (untyped d) (lent_step needs numbered single l)
+    → IsStep needs numbered single d (lent_step needs numbered single l)
 step_is needs numbered single (delivery.Message u) (lent.Message w) is = record {
   single_is = single-is (message_view w) u is numbered;
   ended_is = ends-is (message_view w) u is needs numbered single;
-  heard_is = λ h. noted (lent_ends needs numbered single (message_view w))
-      (ends_exchange needs w.header.message_type w.header.flags)
-      (item_of same needs numbered single (Ok u)) (lent_item needs numbered single (lent.Message w))
-      (lent_single numbered (message_view w)) h (message_lent w u is needs numbered single)
-      ∙ rw (ends-is (message_view w) u is needs numbered single, last-is (message_view w) u is needs numbered) refl;
+  heard_is = stepped needs numbered single (lent_ends needs numbered single (message_view w))
+      (lent_single numbered (message_view w)) (delivery.Message u) (lent.Message w) is
+      (ends-is (message_view w) u is needs numbered single);
 }
 step_is needs numbered single (delivery.Stray u) (lent.Stray w) is = record {
   single_is = refl;
   ended_is = refl;
-  heard_is = λ h. noted true false (item_of same needs numbered single (untyped (delivery.Stray u)))
-      (lent_item needs numbered single (lent.Stray w)) false h
-      (item_lent needs numbered single (delivery.Stray u) (lent.Stray w) is);
+  heard_is = stepped needs numbered single true false (delivery.Stray u) (lent.Stray w) is refl;
 }
 step_is needs numbered single (delivery.Fault e) (lent.Fault f) is = record {
   single_is = refl;
   ended_is = refl;
-  heard_is = λ h. noted true false (item_of same needs numbered single (untyped (delivery.Fault e)))
-      (lent_item needs numbered single (lent.Fault f)) false h
-      (item_lent needs numbered single (delivery.Fault e) (lent.Fault f) is);
+  heard_is = stepped needs numbered single true false (delivery.Fault e) (lent.Fault f) is refl;
 }
 step_is needs numbered single (delivery.Message u) (lent.Stray w) is = absurd is
 step_is needs numbered single (delivery.Message u) (lent.Fault f) is = absurd is
@@ -393,22 +396,22 @@ lends_item s o r l got d ds first is lent waits =
 pub steps_past : (s : HandleState) (o : Option (List Delivery)) (r : Option LentDelivery) (l : LentDelivery)
     (step : Step) (d : Delivery) (ds : List Delivery) → IsFirstLent (head_of o) r → r ≡ Some l
     → step ≡ lent_step s.needs_ack (has_number s.number) s.single_given l → o ≡ Some (d ∷ ds)
-    → IsStep s.needs_ack (has_number s.number) s.single_given (untyped d) step
+    → IsStep s.needs_ack (has_number s.number) s.single_given d step
 steps_past s o r l step d ds first is past waits =
-    subst (IsStep s.needs_ack (has_number s.number) s.single_given (untyped d)) (sym past)
+    subst (IsStep s.needs_ack (has_number s.number) s.single_given d) (sym past)
     (step_is s.needs_ack (has_number s.number) s.single_given d l (its_delivery o r l d ds first is waits))
 
 -- the handle after it
-pub after_step : (s n : HandleState) (item : Item ℕ (List ℕ)) (step : Step)
-    → IsStep s.needs_ack (has_number s.number) s.single_given item step
+pub after_step : (s n : HandleState) (d : Delivery) (step : Step)
+    → IsStep s.needs_ack (has_number s.number) s.single_given d step
     → n ≡ record s { single_given = s.single_given || step.single; ended = step.ended } → n ≡ record s {
-      single_given = s.single_given || is_single same (has_number s.number) item;
-      ended = ends_at same s.needs_ack (has_number s.number) s.single_given item;
+      single_given = s.single_given || is_single same (has_number s.number) (untyped d);
+      ended = ends_at same s.needs_ack (has_number s.number) s.single_given (untyped d);
     }
-after_step s n item step is new = new ∙ rw (is.single_is, is.ended_is) refl
+after_step s n d step is new = new ∙ rw (is.single_is, is.ended_is) refl
 
-pub known_step : (step : Step) (needs numbered single : Bool) (item : Item ℕ (List ℕ)) (o new : Option Heard)
-    → IsStep needs numbered single item step → new ≡ option_map (with_step step) o
-    → new ≡ option_map (heard_with same needs numbered single item) o
-known_step step needs numbered single item None new is h = h
-known_step step needs numbered single item (Some x) new is h = h ∙ ap (λ (y : Heard). Some y) (is.heard_is x)
+pub known_step : (step : Step) (needs numbered single : Bool) (d : Delivery) (o new : Option Heard)
+    → IsStep needs numbered single d step → new ≡ option_map (with_step step) o
+    → new ≡ option_map (heard_with same needs numbered single d (untyped d)) o
+known_step step needs numbered single d None new is h = h
+known_step step needs numbered single d (Some x) new is h = h ∙ ap (λ (y : Heard). Some y) (is.heard_is x)

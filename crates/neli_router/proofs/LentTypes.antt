@@ -16,13 +16,15 @@ use Rattle.neli_reader.specs.laws.Retyping.{payload_in-typed}
 use Rattle.neli_lent.specs.Messages.{Lent, as_owned}
 use Rattle.neli_deliveries.specs.declared.delivery.Delivery.{Delivery}
 use Rattle.neli_deliveries.specs.declared.delivery.Delivery.TheVariants as delivery
+use Rattle.neli_deliveries.specs.Deliveries.{heading_of}
 use Rattle.neli_deliveries.specs.Readings.{IsReading, Item}
+use Rattle.neli_deliveries.specs.declared.delivery.Heading.{Heading}
 use Rattle.neli_log.specs.Lending.{Lends}
 use Rattle.neli_router.proofs.LentItems.{first_with, one}
 use Rattle.neli_router.specs.Lending.{HasType, IsReadable, IsTypedItem, untyped}
 use Rattle.neli_router.specs.Rule.{ends_at, is_answer, is_single, item_of, last_item, last_item_of_payload}
 use Rattle.neli_router.specs.Verdicts.{code_verdict, end_code, error_verdict, heard_after, heard_with, is_flagged}
-use Rattle.neli_router.specs.Verdicts.{is_last, last_verdict, verdict_with}
+use Rattle.neli_router.specs.Verdicts.{last_verdict, verdict_with}
 use Rattle.neli_router.specs.declared.verdict.Heard.{Heard}
 use Rattle.neli_router.specs.declared.verdict.Verdict.{Verdict}
 use Rattle.neli_router.specs.declared.verdict.Verdict.TheVariants as stands
@@ -235,9 +237,6 @@ module _ {K P V : Type 0} (type_of : ℕ → K) (view : P → V) (size : P → �
           → ends_at same needs numbered single (Ok u) ≡ ends_at number_of needs numbered single (Ok m)
       ends_same needs numbered single = rw (number, flags, answers) refl
 
-      pub last_same : (needs : Bool) → is_last same needs (Ok u) ≡ is_last number_of needs (Ok m)
-      last_same needs = rw (number, flags) refl
-
       message_item : (needs numbered single : Bool) → IsTypedItem type_of view size read
           (item_of same needs numbered single (Ok u)) (item_of number_of needs numbered single (Ok m))
       message_item needs numbered single = rw (ends_same needs numbered single)
@@ -288,9 +287,9 @@ module _ {K P V : Type 0} (type_of : ℕ → K) (view : P → V) (size : P → �
     verdict_same v ended x y is = sym (first_with v ended x)
         ∙ (let a = alike x y is in rw (a.flagged 16, a.last) (first_with v ended y))
 
-    heard_same : (ended last : Bool) (x : Item ℕ (List ℕ)) (y : Item K P) (h : Heard)
-        → IsTypedItem type_of view size read x y → heard_after ended last x h ≡ heard_after ended last y h
-    heard_same ended last x y h is = rw (verdict_same h.verdict ended x y is, (alike x y is).flagged 32) refl
+    heard_same : (ended : Bool) (k : Heading) (x : Item ℕ (List ℕ)) (y : Item K P) (h : Heard)
+        → IsTypedItem type_of view size read x y → heard_after ended k x h ≡ heard_after ended k y h
+    heard_same ended k x y h is = rw (verdict_same h.verdict ended x y is, (alike x y is).flagged 32) refl
 
     -- ---- one delivery
 
@@ -314,25 +313,14 @@ module _ {K P V : Type 0} (type_of : ℕ → K) (view : P → V) (size : P → �
       delivery_handle (delivery.Stray u) x fits is ok = absurd ok
       delivery_handle (delivery.Fault e) x fits is ok = rw is (refl, refl)
 
-      delivery_last : (d : Delivery) (x : Item K P) → HasType d → IsReading type_of view size read d x
-          → IsReadable d x → is_last same needs (untyped d) ≡ is_last number_of needs x
-      delivery_last (delivery.Message u) (Ok m) fits is ok = last_same u m is fits needs
-      delivery_last (delivery.Message u) (Err e) fits is ok = absurd ok
-      delivery_last (delivery.Stray u) (Err (router.BadSeqOrPid m)) fits is ok = refl
-      delivery_last (delivery.Stray u) x fits is ok = absurd ok
-      delivery_last (delivery.Fault e) x fits is ok = rw is refl
-
       pub delivery_heard : (d : Delivery) (x : Item K P) (h : Heard) → HasType d
           → IsReading type_of view size read d x → IsReadable d x
-          → heard_with same needs numbered single (untyped d) h ≡ heard_with number_of needs numbered single x h
+          → heard_with same needs numbered single d (untyped d) h ≡ heard_with number_of needs numbered single d x h
       delivery_heard d x h fits is ok =
           let given : Item K P = item_of number_of needs numbered single x in
-          heard_same (ends_at same needs numbered single (untyped d)) (is_last same needs (untyped d))
+          heard_same (ends_at same needs numbered single (untyped d)) (heading_of d)
           (item_of same needs numbered single (untyped d)) given h (delivery_item d x fits is ok)
-          ∙ ap (λ (b : Bool). heard_after b (is_last same needs (untyped d)) given h)
-          (delivery_handle d x fits is ok).1
-          ∙ ap (λ (b : Bool). heard_after (ends_at number_of needs numbered single x) b given h)
-          (delivery_last d x fits is ok)
+          ∙ ap (λ (b : Bool). heard_after b (heading_of d) given h) (delivery_handle d x fits is ok).1
 
     -- ---- a lent message
 

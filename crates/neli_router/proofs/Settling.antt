@@ -12,10 +12,12 @@ use Rattle.neli_reader.specs.laws.Messages.{layout_with-placed}
 use Rattle.neli_lent.specs.Messages.{Lent, lent_message, messages_in}
 use Rattle.neli_lent.specs.Walks.{items_of}
 use Rattle.neli_deliveries.specs.declared.delivery.Delivery.{Delivery}
-use Rattle.neli_deliveries.specs.Deliveries.{head_of}
-use Rattle.neli_deliveries.specs.Readings.{IsFirst, IsReading, Item}
+use Rattle.neli_answers.specs.declared.answering.Answering.{Answering}
+use Rattle.neli_deliveries.specs.Deliveries.{head_of, heading_of}
+use Rattle.neli_deliveries.specs.Readings.{Item}
+use Rattle.neli_deliveries.specs.declared.delivery.Heading.{Heading}
 use Rattle.neli_router.specs.declared.given_up.GivenUp.{GivenUp}
-use Rattle.neli_router.specs.GivenUp.{Finishes, ends_it, has_end, is_given_up, kept_of, ungrouped}
+use Rattle.neli_router.specs.GivenUp.{finishes, ends_it, has_end, is_given_up, kept_of, ungrouped}
 use Rattle.neli_router.specs.Rule.{ends_at, item_of}
 use Rattle.neli_router.specs.Verdicts.{heard_after, heard_of, heard_with, is_last}
 use Rattle.neli_router.specs.declared.verdict.Heard.{Heard}
@@ -64,20 +66,18 @@ waiting_count None = 0
 waiting_count (Some xs) = length xs
 
 -- the first delivery that waits exists
-pub first-there : (o : Option (List Delivery)) (item : Item ℕ (List ℕ))
-    → IsFirst (λ n. n) (λ b. b) length (λ b. Ok b) (head_of o) (Some item)
-    → (d : Delivery) × (ds : List Delivery) × (o ≡ Some (d ∷ ds))
-    × IsReading (λ n. n) (λ b. b) length (λ b. Ok b) d item
-first-there None item is = cc
-first-there (Some []) item is = cc
-first-there (Some (d ∷ ds)) item is = (d, ds, refl, is)
+pub first-there : (o : Option (List Delivery)) (h : Heading) → option_map heading_of (head_of o) ≡ Some h
+    → (d : Delivery) × (ds : List Delivery) × (o ≡ Some (d ∷ ds)) × (heading_of d ≡ h)
+first-there None h is = cc
+first-there (Some []) h is = cc
+first-there (Some (d ∷ ds)) h is = (d, ds, refl, (let same : heading_of d ≡ h = cc in same))
 
 -- no delivery waits
-pub none-there : (o : Option (List Delivery)) (ds : List Delivery)
-    → IsFirst {K = ℕ} {P = List ℕ} (λ n. n) (λ b. b) length (λ b. Ok b) (head_of o) None → o ≡ Some ds → ds ≡ []
+pub none-there : (o : Option (List Delivery)) (ds : List Delivery) → option_map heading_of (head_of o) ≡ None
+    → o ≡ Some ds → ds ≡ []
 none-there None ds is e = cc
 none-there (Some []) ds is e = cc
-none-there (Some (d ∷ rest)) ds is e = absurd is
+none-there (Some (d ∷ rest)) ds is e = cc
 
 pub or_false : (b : Bool) → (b || false) ≡ b
 or_false true = refl
@@ -87,14 +87,13 @@ or_assoc : (a b c : Bool) → ((a || b) || c) ≡ (a || (b || c))
 or_assoc true b c = refl
 or_assoc false b c = refl
 
--- those that were read so far, and this one
-pub finishes-more : (needs last : Bool) (all left : List Delivery) (d : Delivery) (item : Item ℕ (List ℕ))
-    → IsReading (λ n. n) (λ b. b) length (λ b. Ok b) d item
-    → ((b : Bool) → Finishes needs (d ∷ left) b → Finishes needs all (last || b))
-    → (b : Bool) → Finishes needs left b → Finishes needs all ((last || is_last (λ n. n) needs item) || b)
-finishes-more needs last all left d item is so_far b later =
-    rw (or_assoc last (is_last (λ n. n) needs item) b)
-    (so_far (is_last (λ n. n) needs item || b) (item, is, b, later, refl))
+-- those that were looked at so far, and this one
+pub finishes-more : (answering : Answering) (last : Bool) (all left : List Delivery) (d : Delivery) (h : Heading)
+    → heading_of d ≡ h → (last || finishes answering (d ∷ left)) ≡ finishes answering all
+    → ((last || is_last answering h) || finishes answering left) ≡ finishes answering all
+finishes-more answering last all left d h is so_far =
+    or_assoc last (is_last answering h) (finishes answering left)
+    ∙ (ap (λ (x : Heading). last || (is_last answering x || finishes answering left)) (sym is) ∙ so_far)
 
 -- ---- messages that are walked
 
@@ -212,13 +211,12 @@ heard-put m n q x u = (u.1, others)
     others (Some p) not = u.2 p (ne_eqb q p (λ e. not (ap (λ (k : ℕ). Some k) (sym e))))
 
 -- what is heard by an item, said at once
-pub heard-by : {K P : Type 0} (number_of : K → ℕ) (needs numbered after ended last : Bool) (x given : Item K P)
-    (o new : Option Heard) → ended ≡ ends_at number_of needs numbered after x → last ≡ is_last number_of needs x
-    → given ≡ item_of number_of needs numbered after x → new ≡ option_map (heard_after ended last given) o
-    → new ≡ option_map (heard_with number_of needs numbered after x) o
-heard-by {K = K} {P = P} number_of needs numbered after ended last x given None new e l i h = h
-heard-by {K = K} {P = P} number_of needs numbered after ended last x given (Some y) new e l i h =
-    h ∙ ap (λ (b : Bool). Some (heard_after b last given y)) e
-    ∙ ap (λ (b : Bool). Some (heard_after (ends_at number_of needs numbered after x) b given y)) l
-    ∙ ap (λ (z : Item K P). Some (heard_after (ends_at number_of needs numbered after x)
-    (is_last number_of needs x) z y)) i
+pub heard-by : {K P : Type 0} (number_of : K → ℕ) (needs numbered after ended : Bool) (h : Heading) (d : Delivery)
+    (x given : Item K P) (o new : Option Heard) → ended ≡ ends_at number_of needs numbered after x → h ≡ heading_of d
+    → given ≡ item_of number_of needs numbered after x → new ≡ option_map (heard_after ended h given) o
+    → new ≡ option_map (heard_with number_of needs numbered after d x) o
+heard-by {K = K} {P = P} number_of needs numbered after ended h d x given None new e l i is = is
+heard-by {K = K} {P = P} number_of needs numbered after ended h d x given (Some y) new e l i is =
+    is ∙ ap (λ (b : Bool). Some (heard_after b h given y)) e
+    ∙ ap (λ (k : Heading). Some (heard_after (ends_at number_of needs numbered after x) k given y)) l
+    ∙ ap (λ (z : Item K P). Some (heard_after (ends_at number_of needs numbered after x) (heading_of d) z y)) i

@@ -14,10 +14,11 @@ use Rattle.neli_lent.specs.declared.message.LentMessage.{LentMessage}
 use Rattle.neli_deliveries.specs.declared.delivery.Delivery.{Delivery}
 use Rattle.neli_deliveries.specs.declared.delivery.Delivery.TheVariants as delivery
 use Rattle.neli_deliveries.specs.Readings.{Item}
-use Rattle.neli_log.specs.Lending.{Lends}
+use Rattle.neli_deliveries.specs.declared.delivery.Heading.{Heading}
+use Rattle.neli_log.specs.Lending.{Lends, lent_heading}
 use Rattle.neli_log.specs.declared.lending.LentDelivery.{LentDelivery}
 use Rattle.neli_log.specs.declared.lending.LentDelivery.TheVariants as lent
-use Rattle.neli_router.specs.Verdicts.{code_verdict, ends_exchange, fault_verdict}
+use Rattle.neli_router.specs.Verdicts.{code_verdict, fault_verdict, is_last}
 use Rattle.neli_router.specs.declared.lending.LentError.{LentError}
 use Rattle.neli_router.specs.declared.lending.LentError.TheVariants as error
 use Rattle.neli_router.specs.declared.lending.LentReply.{LentReply}
@@ -118,11 +119,11 @@ lent_verdict ended l =
 -- ---- the step past a delivery
 
 -- by the item that is lent
-abbrev pub step_by : Bool → Bool → Bool → LentItem → Step
-step_by single ended last l = record {
+abbrev pub step_by : Bool → Bool → Heading → LentItem → Step
+step_by single ended heading l = record {
   single = single;
   ended = ended;
-  last = last;
+  heading = heading;
   filtered = is_lent_flagged 32 l;
   verdict = lent_verdict ended l;
 }
@@ -130,8 +131,8 @@ step_by single ended last l = record {
 abbrev pub lent_step : Bool → Bool → Bool → LentDelivery → Step
 lent_step needs numbered after (lent.Message m) =
     step_by (lent_single numbered (message_view m)) (lent_ends needs numbered after (message_view m))
-    (ends_exchange needs m.header.message_type m.header.flags) (lent_item needs numbered after (lent.Message m))
-lent_step needs numbered after d = step_by false true false (lent_item needs numbered after d)
+    (lent_heading (lent.Message m)) (lent_item needs numbered after (lent.Message m))
+lent_step needs numbered after d = step_by false true (lent_heading d) (lent_item needs numbered after d)
 
 -- every verdict but pending stays
 abbrev pub first_verdict : Verdict → Verdict → Verdict
@@ -140,10 +141,10 @@ first_verdict before v = before
 
 -- what is known after it
 abbrev pub with_step : Step → Heard → Heard
-with_step step heard = record {
+with_step step heard = record heard {
   verdict = first_verdict heard.verdict step.verdict;
   filtered = heard.filtered || step.filtered;
-  finished = heard.finished || step.last;
+  finished = heard.finished || is_last heard.answering step.heading;
 }
 
 -- ---- read as the caller's types

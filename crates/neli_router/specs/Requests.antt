@@ -26,6 +26,7 @@ use Rattle.neli_router.specs.declared.handle.HandleState.{HandleState}
 use Rattle.neli_router.specs.declared.verdict.Heard.{Heard}
 use Rattle.neli_router.specs.Sends.{asks, frame_or_refusal, number_after}
 use Rattle.neli_router.specs.Verdicts.{begun}
+use Rattle.neli_answers.specs.Answers.{answering_by_flags}
 
 -- ---- what a request changes
 
@@ -34,7 +35,7 @@ abbrev pub Asks : {A : Type 0} → NlmF → HandleState → (number next : ℕ)
     → (before after : Option ℕ → Option (List A)) → (heard hears : Option ℕ → Option Heard) → Type 0
 Asks flags handle number next before after heard hears =
     (handle ≡ asks number flags) × (next ≡ number_after number) × Opens number before after
-    × (hears (Some number) ≡ Some begun) × SameListsBut (Some number) heard hears
+    × (hears (Some number) ≡ Some (begun (answering_by_flags flags))) × SameListsBut (Some number) heard hears
 
 -- one that is refused changes nothing
 abbrev pub AsksNothing : {A : Type 0} → (number next : ℕ) → (before after : Option ℕ → Option (List A))

@@ -3,6 +3,8 @@ use Rattle.std.specs.Prelude.{ℕ, suc, Bool, true, false, not, ◌&&◌, ◌||�
 use Rattle.std.specs.Prelude.{List, [], ◌∷◌, length, Option, Some, None, Ok, Err}
 use Rattle.std.specs.List.{slice_get}
 use Rattle.neli_consts.specs.declared.nlm_f.NlmF.{NlmF}
+use Rattle.neli_answers.specs.declared.answering.Answering.{Answering}
+use Rattle.neli_answers.specs.declared.answering.Answering.TheVariants as answered
 use Rattle.neli_reader.specs.Framed.{Nlmsghdr}
 use Rattle.neli_reader.specs.NlPayload.{NlPayload}
 use Rattle.neli_reader.specs.NlPayload.TheVariants as payload
@@ -15,6 +17,11 @@ use Rattle.neli_router.specs.declared.reply.Reply.TheVariants as reply
 -- sent flags request an acknowledgement: ACK (4) is set, and not both bits of DUMP (0x300)
 abbrev pub needs_ack : NlmF → Bool
 needs_ack flags = (bit_and flags.0 4 == 4) && not (bit_and flags.0 768 == 768)
+
+-- an acknowledgement ends the answer
+abbrev pub awaits : Answering → Bool
+awaits answered.Acknowledgement = true
+awaits answering = false
 
 -- a handle with a sequence number, not that for multicast
 abbrev pub has_number : Option ℕ → Bool

@@ -13,7 +13,8 @@ use Rattle.neli_reader.specs.Builders.{header_with}
 use Rattle.neli_reader.specs.Headers.{flags_of}
 use Rattle.neli_reader.specs.Wires.{message_wire, payload_size}
 use Rattle.neli_router.specs.declared.handle.HandleState.{HandleState}
-use Rattle.neli_router.specs.Rule.{needs_ack}
+use Rattle.neli_router.specs.Rule.{awaits, needs_ack}
+use Rattle.neli_answers.specs.declared.answering.Answering.{Answering}
 
 -- the flags with REQUEST (1)
 abbrev pub with_request : NlmF → NlmF
@@ -57,7 +58,12 @@ RefusesSend outcome takes e = outcome ≡ Err e
 abbrev pub number_after : ℕ → ℕ
 number_after n = (n + 1) % 2 ^ 32
 
--- a handle that has returned nothing yet
+-- a handle that has returned nothing yet, of a request that is answered so
+abbrev pub expects : ℕ → Answering → HandleState
+expects number answering =
+    record { number = Some number; needs_ack = awaits answering; single_given = false; ended = false }
+
+-- the same, by the request's flags
 abbrev pub asks : ℕ → NlmF → HandleState
 asks number flags =
     record { number = Some number; needs_ack = needs_ack flags; single_given = false; ended = false }

@@ -1,17 +1,22 @@
 -- The verdict on an answer: what is known of it by the items read, and whether it is complete.
-use Rattle.std.specs.Prelude.{ℕ, ℤ, pos, Bool, false, not, ◌&&◌, ◌||◌, ◌==◌, nat_eq, nat_lt, bit_and, if◌then◌else◌}
+use Rattle.std.specs.Prelude.{ℕ, ℤ, pos, Bool, true, false, ◌||◌, ◌==◌, nat_eq, nat_lt, bit_and, if◌then◌else◌}
 use Rattle.std.specs.HashMap.{HashMap, get}
 use Rattle.std.specs.Ordering.{int_eq}
 use Rattle.std.specs.Prelude.{List, [], ◌∷◌, ◌++◌, take, Option, Some, None, Ok, Err}
 use Rattle.std.specs.List.{list_any, slice_get}
-use Rattle.neli_consts.specs.declared.nlm_f.NlmF.{NlmF}
 use Rattle.neli_reader.specs.NlPayload.{NlPayload}
 use Rattle.neli_reader.specs.NlPayload.TheVariants as payload
 use Rattle.neli_reader.specs.RouterError.{RouterError}
 use Rattle.neli_reader.specs.RouterError.TheVariants as router
 use Rattle.neli_reader.specs.SocketError.{SocketError}
 use Rattle.neli_reader.specs.SocketError.TheVariants as socket
-use Rattle.neli_reader.specs.Kinds.{is_multi}
+use Rattle.neli_answers.specs.Answers.{ends_answer}
+use Rattle.neli_answers.specs.declared.answering.Answering.{Answering}
+use Rattle.neli_answers.specs.declared.answering.Answering.TheVariants as answered
+use Rattle.neli_deliveries.specs.Deliveries.{heading_of}
+use Rattle.neli_deliveries.specs.declared.delivery.Delivery.{Delivery}
+use Rattle.neli_deliveries.specs.declared.delivery.Heading.{Heading}
+use Rattle.neli_deliveries.specs.declared.delivery.Heading.TheVariants as heading
 use Rattle.neli_deliveries.specs.Readings.{Item}
 use Rattle.neli_router.specs.declared.verdict.Heard.{Heard}
 use Rattle.neli_router.specs.declared.verdict.Loss.TheVariants as loss
@@ -88,23 +93,36 @@ module _ {K P : Type 0} (number_of : K → ℕ) (needs numbered : Bool) where
 
 -- ---- where the other side's answer ends
 
--- by type and flags: an acknowledgement or an error (type 2); or, if no acknowledgement was requested, a message
--- without MULTI, or the end of a dump (type 3)
-abbrev pub ends_exchange : Bool → ℕ → NlmF → Bool
-ends_exchange needs number flags = (number == 2) || (not needs && (not (is_multi flags) || (number == 3)))
+-- the last message of an answer, by its type and its flags; no stray and no fault is one
+abbrev pub is_last : Answering → Heading → Bool
+is_last answering (heading.Message type flags) = ends_answer answering type flags
+is_last answering heading.Other = false
 
--- of an item; one that cannot be read as the caller's types counts as the last if no acknowledgement follows
-abbrev pub is_last : {K P : Type 0} → (K → ℕ) → Bool → Item K P → Bool
-is_last number_of needs (Ok m) = ends_exchange needs (number_of m.header.message_type) m.header.flags
-is_last number_of needs (Err (router.Socket e)) = false
-is_last number_of needs (Err (router.BadSeqOrPid m)) = false
-is_last number_of needs (Err e) = not needs
+-- the same of a delivery, by its message's header
+abbrev pub is_last_delivery : Answering → Delivery → Bool
+is_last_delivery answering d = is_last answering (heading_of d)
+
+-- the same of an item in a list; an error in place of a message is none
+abbrev pub is_last_item : {K P : Type 0} → (K → ℕ) → Answering → Item K P → Bool
+is_last_item number_of answering (Ok m) = ends_answer answering (number_of m.header.message_type) m.header.flags
+is_last_item number_of answering (Err e) = false
+
+-- complete only where the other side's answer has ended too
+abbrev pub whole_verdict : Bool → Verdict → Verdict
+whole_verdict finished stands.Complete = if finished then stands.Complete else stands.Lost loss.Unended
+whole_verdict finished v = v
+
+-- the verdict on a list of items, by how their request is answered
+abbrev pub verdict_of_items : {K P : Type 0} → (K → ℕ) → Answering → Bool → List (Item K P) → Verdict
+verdict_of_items number_of answering needs items =
+    whole_verdict (list_any (is_last_item number_of answering) (given_of number_of needs true items))
+    (verdict number_of needs true items)
 
 -- ---- one item more
 
--- nothing was read
-abbrev pub begun : Heard
-begun = record { verdict = stands.Pending; filtered = false; finished = false }
+-- nothing was read of an answer that comes so
+abbrev pub begun : Answering → Heard
+begun answering = record { verdict = stands.Pending; filtered = false; finished = false; answering = answering }
 
 -- by an item that is given, at which the answer ends or not
 abbrev pub item_verdict : {K P : Type 0} → Bool → Item K P → Verdict
@@ -116,33 +134,36 @@ abbrev pub verdict_with : {K P : Type 0} → Verdict → Bool → Item K P → V
 verdict_with stands.Pending ended x = item_verdict ended x
 verdict_with v ended x = v
 
--- what is known with one more returned item
-abbrev pub heard_after : {K P : Type 0} → Bool → Bool → Item K P → Heard → Heard
-heard_after ended last x heard =
-    record {
-      verdict = verdict_with heard.verdict ended x;
-      filtered = heard.filtered || is_flagged 32 x;
-      finished = heard.finished || last;
-    }
+-- what is known with one more returned item, of a delivery with this heading
+abbrev pub heard_after : {K P : Type 0} → Bool → Heading → Item K P → Heard → Heard
+heard_after ended h x heard = record heard {
+  verdict = verdict_with heard.verdict ended x;
+  filtered = heard.filtered || is_flagged 32 x;
+  finished = heard.finished || is_last heard.answering h;
+}
 
--- after this item was read, by a handle that returned a single reply (`after`) or not
-abbrev pub heard_with : {K P : Type 0} → (K → ℕ) → Bool → Bool → Bool → Item K P → Heard → Heard
-heard_with number_of needs numbered after x heard =
-    heard_after (ends_at number_of needs numbered after x) (is_last number_of needs x)
-    (item_of number_of needs numbered after x) heard
+-- after this delivery was read as this item, by a handle that returned a single reply (`after`) or not
+abbrev pub heard_with : {K P : Type 0} → (K → ℕ) → Bool → Bool → Bool → Delivery → Item K P → Heard → Heard
+heard_with number_of needs numbered after d x heard =
+    heard_after (ends_at number_of needs numbered after x) (heading_of d) (item_of number_of needs numbered after x)
+    heard
 
 -- what is known of the answer to a request, while its number is open; of multicast nothing
 abbrev pub heard_of : {S : Type 0} → HashMap ℕ Heard S → Option ℕ → Option Heard
 heard_of heard None = None
 heard_of heard (Some q) = get nat_eq heard q
 
+-- what is known, with the final verdict
+abbrev pub settled : Heard → Heard
+settled heard = record heard { verdict = whole_verdict heard.finished heard.verdict }
+
 -- the verdict by that: nothing ends multicast, and a number that is not open is lost
 abbrev pub verdict_by : Option ℕ → Option Heard → Verdict
 verdict_by None heard = stands.Pending
 verdict_by (Some q) None = stands.Lost loss.Closed
-verdict_by (Some q) (Some heard) = heard.verdict
+verdict_by (Some q) (Some heard) = whole_verdict heard.finished heard.verdict
 
--- the other side's last message was read
-abbrev pub has_finished : Option Heard → Bool
-has_finished None = false
-has_finished (Some heard) = heard.finished
+-- what is known, or nothing yet of an answer that comes as the handle needs it
+abbrev pub known_of : Bool → Option Heard → Heard
+known_of needs None = begun (if needs then answered.Acknowledgement else answered.Reply)
+known_of needs (Some heard) = heard

@@ -3,23 +3,25 @@
 ghost use Rattle.std.specs.Prelude.{true, false, ◌≡◌, ◌||◌, ◌++◌, ◌∷◌, [], ℕ, Bool, List, None, Some, IsOk, IfOk};
 ghost use Rattle.std.specs.Prelude.{Option, OnErr, OnOk, is_some, option_map, if◌then◌else◌};
 ghost use Rattle.std.specs.List.{list_any};
+ghost use Rattle.neli_answers.specs.declared.answering.Answering.TheVariants as answered;
 ghost use Rattle.neli_reader.specs.Agreement.{untyped_layout};
 ghost use Rattle.neli_reader.specs.Cuts.{cut_of};
 ghost use Rattle.neli_lent.specs.Messages.{message_view, messages_in};
 ghost use Rattle.neli_deliveries.specs.Lists.{SameLists, SameListsBut};
 ghost use Rattle.neli_deliveries.specs.declared.delivery.Delivery.{Delivery as Waiting};
 ghost use Rattle.neli_deliveries.specs.Deliveries.{datagram_share, fault_share, is_would_block};
-ghost use Rattle.neli_router.specs.GivenUp.{Finishes, IsLeft, ends_it, given_up, has_end, is_given_up, kept_of};
+ghost use Rattle.neli_router.specs.GivenUp.{IsLeft, ends_it, finishes, given_up, has_end, has_finished, is_given_up};
+ghost use Rattle.neli_router.specs.GivenUp.{kept_of};
 ghost use Rattle.neli_router.specs.GivenUp.{still_open, ungrouped};
 ghost use Rattle.neli_router.specs.Listening.{missed_with};
-ghost use Rattle.neli_router.specs.Verdicts.{has_finished, heard_of, is_last};
+ghost use Rattle.neli_router.specs.Verdicts.{heard_of, known_of};
 
 use crate::listening::missed_with;
-use crate::verdict::{ends_exchange, is_last};
-use crate::{Deliveries, NlRouter, NlRouterReceiverHandle};
-use neli_attr::Buffer;
+use crate::verdict::is_last;
+use crate::{Deliveries, Heard, NlRouter, NlRouterReceiverHandle};
+use neli_answers::Answering;
 use neli_lent::{LentMessage, LentMessages};
-use neli_reader::{Nlmsghdr, RouterError, SocketError};
+use neli_reader::SocketError;
 use neli_util::Groups;
 use neli_wire::NoMemory;
 use std::alloc::Global;
@@ -28,7 +30,7 @@ use std::alloc::Global;
 #[derive(Clone, Copy, Debug, PartialEq, Eq)]
 pub struct GivenUp {
     pub(crate) number: u32,
-    pub(crate) needs_ack: bool,
+    pub(crate) answering: Answering,
 }
 
 /// Whether a message is the last that answers this request.
@@ -37,7 +39,9 @@ fn ends_it(port: u32, request: &GivenUp, message: &LentMessage<'_, u16>) -> bool
 {
     *message.nl_pid() == port
         && *message.nl_seq() == request.number
-        && ends_exchange(request.needs_ack, *message.nl_type(), *message.nl_flags())
+        && request
+            .answering
+            .ends_with(*message.nl_type(), *message.nl_flags())
 }
 
 /// Whether the last message that answers this request is among those of these bytes.
@@ -88,35 +92,32 @@ fn either(one: bool, other: bool) -> bool
     one || other
 }
 
-/// Whether an item, which is freed, is the last of the other side's answer.
-fn was_last(needs_ack: bool, item: Result<Nlmsghdr<u16, Buffer>, RouterError<u16, Buffer>>) -> bool
-    ensures { result ≡ is_last (λ n. n) needs_ack item }
+/// How an answer comes of which nothing else is known.
+fn awaited(needs_ack: bool) -> Answering
+    ensures { result ≡ (if needs_ack then answered.Acknowledgement else answered.Reply) }
 {
-    is_last(needs_ack, &item)
+    if needs_ack {
+        Answering::Acknowledgement
+    } else {
+        Answering::Reply
+    }
 }
 
 /// Removes all that waits for a number, and returns whether the last message of its answer was there.
-///
-/// Refused only if memory runs out; then a part of it is removed.
-fn finishes<D: Deliveries>(
-    deliveries: &mut D,
-    alloc: Global,
-    number: u32,
-    needs_ack: bool,
-) -> Result<bool, NoMemory>
+fn finishes<D: Deliveries>(deliveries: &mut D, number: u32, answering: Answering) -> bool
     ensures port { D.port_of deliveries.new ≡ D.port_of deliveries.old }
     ensures others { SameListsBut (Some number) (D.pending deliveries.old) (D.pending deliveries.new) }
-    ensures ok { (ds : List Waiting) → D.pending deliveries.old (Some number) ≡ Some ds
-        → IfOk result (λ last. Finishes needs_ack ds last
-        × (D.pending deliveries.new (Some number) ≡ Some [])) }
+    ensures last { (ds : List Waiting) → D.pending deliveries.old (Some number) ≡ Some ds
+        → (result ≡ finishes answering ds)
+        × (D.pending deliveries.new (Some number) ≡ Some []) }
 {
     let whose = Some(number);
     let mut last = false;
-    while let Some(item) = deliveries.first::<u16, Buffer>(alloc, whose)? {
-        last = either(last, was_last(needs_ack, item));
+    while let Some(heading) = deliveries.first_heading(whose) {
+        last = either(last, is_last(answering, heading));
         deliveries.drop_first(whose);
     }
-    Ok(last)
+    last
 }
 
 impl<D: Deliveries> NlRouter<D> {
@@ -223,21 +224,21 @@ impl<D: Deliveries> NlRouter<D> {
         Ok(())
     }
 
-    /// Whether the last message of the answer to a request was read.
-    fn has_finished(&self, number: u32) -> bool
-        ensures { result ≡ has_finished (heard_of self.now.heard (Some number)) }
+    /// What is known of the answer to an open number.
+    fn known(&self, number: u32, needs_ack: bool) -> Heard
+        ensures { result ≡ known_of needs_ack (heard_of self.now.heard (Some number)) }
     {
         match self.heard.get(&number) {
-            None => false,
-            Some(heard) => heard.finished,
+            None => Heard::begun(awaited(needs_ack)),
+            Some(heard) => *heard,
         }
     }
 
-    /// Removes all that waits for an open number, and returns whether the last message of its answer has arrived; if
-    /// not, the number is among those given up.
+    /// Removes all that waits for an open number, of whose answer this is known, and returns whether the last message
+    /// of that has arrived; if not, the number is among those given up.
     ///
-    /// Refused only if memory runs out; then a part of what waits is removed.
-    fn leave(&mut self, alloc: Global, number: u32, needs_ack: bool) -> Result<bool, NoMemory>
+    /// Refused only if memory runs out.
+    fn leave(&mut self, number: u32, known: Heard) -> Result<bool, NoMemory>
         ensures port { D.port_of self.new.deliveries ≡ D.port_of self.old.deliveries }
         ensures next_seq { self.new.next_seq ≡ self.old.next_seq }
         ensures missed { self.new.missed ≡ self.old.missed }
@@ -245,19 +246,18 @@ impl<D: Deliveries> NlRouter<D> {
         ensures others { SameListsBut (Some number)
             (D.pending self.old.deliveries) (D.pending self.new.deliveries) }
         ensures ok { (ds : List Waiting) → D.pending self.old.deliveries (Some number) ≡ Some ds
-            → IfOk result (λ finished. (last : Bool) × Finishes needs_ack ds last
-            × (finished ≡ (has_finished (heard_of self.old.heard (Some number)) || last))
+            → IfOk result (λ finished. (finished ≡ has_finished known ds)
             × (D.pending self.new.deliveries (Some number) ≡ Some [])) }
         ensures given_up { IfOk result (λ finished. self.new.given_up.items
             ≡ (if finished then self.old.given_up.items
-            else self.old.given_up.items ++ given_up number needs_ack ∷ [])) }
+            else self.old.given_up.items ++ given_up number known.answering ∷ [])) }
         ensures unchanged { OnErr result (self.new.given_up.items ≡ self.old.given_up.items) }
     {
-        let before = self.has_finished(number);
-        let last = finishes(&mut self.deliveries, alloc, number, needs_ack)?;
-        let finished = either(before, last);
+        let answering = known.answering;
+        let last = finishes(&mut self.deliveries, number, answering);
+        let finished = either(known.finished, last);
         if !finished {
-            self.given_up.push(GivenUp { number, needs_ack })?;
+            self.given_up.push(GivenUp { number, answering })?;
         }
         Ok(finished)
     }
@@ -267,14 +267,13 @@ impl<D: Deliveries> NlRouter<D> {
     /// link by [`NlRouter::link_failed`]. So messages on their way are no other request's strays. If that message
     /// arrived already, the number is closed, as is the handle of multicast.
     ///
-    /// The last message is an acknowledgement or an error; or, if no acknowledgement was requested, a message without
-    /// `NLM_F_MULTI`, or the end of a dump. No fault ends the other side's answer. A handle that returned a message
-    /// which cannot be read as the caller's types is closed at once, if no acknowledgement was requested.
+    /// The last message is the one with which the answer ends by [`Answering::ends_with`], whether it could be read as
+    /// the caller's types or not. No fault ends the other side's answer.
     ///
     /// Refused only if memory runs out; then the handle is closed.
     pub fn give_up<RT, RP>(
         &mut self,
-        alloc: Global,
+        _alloc: Global,
         handle: NlRouterReceiverHandle<RT, RP>,
     ) -> Result<(), NoMemory>
         ensures port { D.port_of self.new.deliveries ≡ D.port_of self.old.deliveries }
@@ -286,9 +285,10 @@ impl<D: Deliveries> NlRouter<D> {
             → (IsOk result) × (D.pending self.new.deliveries handle.number ≡ None) }
         ensures ok { (q : ℕ) (ds : List Waiting) → handle.number ≡ Some q
             → D.pending self.old.deliveries (Some q) ≡ Some ds
-            → OnOk result ((last : Bool) × Finishes handle.needs_ack ds last
-            × IsLeft q handle.needs_ack
-            (has_finished (heard_of self.old.heard (Some q)) || last) self.old.given_up.items
+            → OnOk result (IsLeft q
+            (known_of handle.needs_ack (heard_of self.old.heard (Some q))).answering
+            (has_finished (known_of handle.needs_ack (heard_of self.old.heard (Some q))) ds)
+            self.old.given_up.items
             (D.pending self.new.deliveries) self.new.given_up.items) }
         ensures others { SameListsBut handle.number
             (D.pending self.old.deliveries) (D.pending self.new.deliveries) }
@@ -308,7 +308,8 @@ impl<D: Deliveries> NlRouter<D> {
             self.close(handle);
             return Ok(());
         }
-        match self.leave(alloc, number, state.needs_ack) {
+        let known = self.known(number, state.needs_ack);
+        match self.leave(number, known) {
             Ok(finished) => {
                 if finished {
                     self.close(handle);

@@ -39,8 +39,8 @@ pub fn lent_items_are_read<T: NlType, P: FromBytesWithInput + Size>()
         ≡ ends_at T.wire_number needs numbered single x) }
     ensures heard { (needs numbered single : Bool) (d : Waiting) (x : Given T P) (h : Known)
         → HasType d → IsReading T.wire_value P.view P.wire_length P.read d x → IsReadable d x
-        → heard_with (λ n. n) needs numbered single (untyped d) h
-        ≡ heard_with T.wire_number needs numbered single x h }
+        → heard_with (λ n. n) needs numbered single d (untyped d) h
+        ≡ heard_with T.wire_number needs numbered single d x h }
     ensures message { (m : Lent ℕ) (u : Message ℕ (List ℕ)) (x : Message T P) → Lends m u
         → u.header.message_type < 65536 → IsTyped T.wire_value P.view P.wire_length P.read u x
         → as_owned T.wire_value T.wire_number P.read (typed_header T.wire_value m.0, m.1)

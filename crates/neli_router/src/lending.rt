@@ -14,12 +14,13 @@ ghost use Rattle.neli_router.specs.Verdicts.{heard_of, heard_with};
 ghost use Rattle.neli_router.specs.declared.lending.LentError.TheVariants as error;
 ghost use Rattle.neli_router.specs.declared.lending.LentReply.TheVariants as reply;
 
-use crate::verdict::{ends_exchange, fault_verdict};
+use crate::verdict::{fault_verdict, is_last};
 use crate::{Deliveries, HandleState, Heard, Loss, NlRouter, NlRouterReceiverHandle, Verdict};
 use bitflags::Flags;
 use byteorder::{ByteOrder, LittleEndian};
 use indexmap::IndexMap;
 use neli_consts::{NLMSG_DONE, NLMSG_ERROR, NlmF};
+use neli_deliveries::Heading;
 use neli_lent::LentMessage;
 use neli_log::hints::{Hints, put, value_of};
 use neli_log::{LentDelivery, Log};
@@ -207,7 +208,7 @@ fn item_verdict(ended: bool, item: &Result<LentMessage<'_, u16>, LentError<'_>>)
 pub(crate) struct Step {
     single: bool,
     ended: bool,
-    last: bool,
+    heading: Heading,
     filtered: bool,
     verdict: Verdict,
 }
@@ -224,7 +225,8 @@ impl Step {
         Heard {
             verdict,
             filtered: heard.filtered || self.filtered,
-            finished: heard.finished || self.last,
+            finished: heard.finished || is_last(heard.answering, self.heading),
+            answering: heard.answering,
         }
     }
 }
@@ -234,19 +236,19 @@ pub(crate) fn step_past(state: HandleState, delivery: LentDelivery<'_>) -> Step
     ensures { result ≡ lent_step state.needs_ack (has_number state.number) state.single_given
         delivery.entry }
 {
-    let (single, ended, last) = match &delivery {
+    let (single, ended) = match &delivery {
         LentDelivery::Message(message) => (
             is_single(state.number.is_some(), message),
             ends(state, message),
-            ends_exchange(state.needs_ack, *message.nl_type(), *message.nl_flags()),
         ),
-        _ => (false, true, false),
+        _ => (false, true),
     };
+    let heading = delivery.heading();
     let item = item_of(state, delivery);
     Step {
         single,
         ended,
-        last,
+        heading,
         filtered: has_flag(NlmF::DUMP_FILTERED, &item),
         verdict: item_verdict(ended, &item),
     }
@@ -354,7 +356,7 @@ impl NlRouter<Log> {
             → pending_of self.old.deliveries handle.old.number ≡ Some (d ∷ ds)
             → heard_of self.new.heard handle.old.number
             ≡ option_map (heard_with (λ n. n) handle.old.needs_ack
-            (has_number handle.old.number) handle.old.single_given (untyped d))
+            (has_number handle.old.number) handle.old.single_given d (untyped d))
             (heard_of self.old.heard handle.old.number) }
         ensures unheard { SameListsBut handle.old.number
             (heard_of self.old.heard) (heard_of self.new.heard) }

@@ -11,9 +11,9 @@
 //!
 //! `specs/Rule.antt` defines where a handle's answers end and what each read returns; `specs/Sends.antt` the bytes of a
 //! request, and the three causes that refuse it; `specs/Requests.antt` the two requests to the controller of generic
-//! netlink; `specs/Verdicts.antt` the verdict on an answer, and `specs/GivenUp.antt` what is kept of one that was given
-//! up; `specs/Lending.antt` what a lent read lends, and what passing it changes; `specs/Ahead.antt` the same of items that
-//! are lent one after the other.
+//! netlink; `specs/Verdicts.antt` the verdict on an answer, by where the other side's ends ([`Answering`]), and
+//! `specs/GivenUp.antt` what is kept of one that was given up; `specs/Lending.antt` what a lent read lends, and what
+//! passing it changes; `specs/Ahead.antt` the same of items that are lent one after the other.
 #![tactic(auto)]
 
 mod ahead;
@@ -35,7 +35,8 @@ pub use handle::{HandleState, NlRouterReceiverHandle};
 pub use items::{filtered_of, verdict_of};
 pub use lending::{LentError, LentReply};
 pub use listening::{Missed, Notice};
-pub use neli_deliveries::{Deliveries, Delivery};
+pub use neli_answers::{Answering, is_dump};
+pub use neli_deliveries::{Deliveries, Delivery, Heading};
 pub use reply::Reply;
 pub use router::NlRouter;
 pub use verdict::{Heard, Loss, Verdict};

@@ -6,21 +6,23 @@ ghost use Rattle.neli_reader.specs.Cuts.{cut_of};
 ghost use Rattle.neli_reader.specs.Agreement.{untyped_layout};
 ghost use Rattle.neli_deliveries.specs.Lists.{ListsGain, Opens, SameLists, SameListsBut};
 ghost use Rattle.neli_deliveries.specs.declared.delivery.Delivery.{Delivery as Waiting};
-ghost use Rattle.neli_deliveries.specs.Deliveries.{fault_share, is_would_block, datagram_share};
+ghost use Rattle.neli_deliveries.specs.Deliveries.{fault_share, heading_of, is_would_block, datagram_share};
 ghost use Rattle.neli_deliveries.specs.Readings.{IsReading, Item as Given, ReadingTakesMemory};
 ghost use Rattle.neli_router.specs.declared.reply.Reply.TheVariants as reply;
 ghost use Rattle.neli_router.specs.Rule.{ends_at, has_number, is_single, item_of};
 ghost use Rattle.neli_router.specs.GivenUp.{still_open};
-ghost use Rattle.neli_router.specs.Verdicts.{begun, heard_after, heard_of, heard_with, verdict_by};
-ghost use Rattle.neli_router.specs.Sends.{RefusesSend, TakesMemory, asks, number_after, frame_or_refusal};
+ghost use Rattle.neli_router.specs.Verdicts.{begun, heard_after, heard_of, heard_with, settled, verdict_by};
+ghost use Rattle.neli_answers.specs.Answers.{answering_by_flags};
+ghost use Rattle.neli_router.specs.Sends.{RefusesSend, TakesMemory, asks, expects, number_after, frame_or_refusal};
 
-use crate::rule::{answer, needs_acknowledgement};
-use crate::verdict::is_last;
+use crate::rule::{answer, awaits};
 use crate::{
     Deliveries, GivenUp, HandleState, Heard, Loss, Missed, NlRouterReceiverHandle, Reply, Verdict,
 };
 use indexmap::IndexMap;
+use neli_answers::Answering;
 use neli_consts::{NlType, NlmF};
+use neli_deliveries::Heading;
 use neli_genl::Genlmsghdr;
 use neli_log::Log;
 use neli_log::hints::{Hints, put, value_of};
@@ -142,7 +144,50 @@ impl<D: Deliveries> NlRouter<D> {
             × (SameLists (D.pending self.old.deliveries) (D.pending self.new.deliveries))) }
         // Nothing is known of the answer yet.
         ensures heard { OnOk result
-            ((heard_of self.new.heard (Some self.old.next_seq) ≡ Some begun)
+            ((heard_of self.new.heard (Some self.old.next_seq) ≡ Some (begun (answering_by_flags nl_flags)))
+            × SameListsBut (Some self.old.next_seq)
+            (heard_of self.old.heard) (heard_of self.new.heard)) }
+        ensures unheard { OnErr result
+            (SameLists (heard_of self.old.heard) (heard_of self.new.heard)) }
+        ensures given_up { self.new.given_up ≡ self.old.given_up }
+        ensures missed { self.new.missed ≡ self.old.missed }
+    {
+        let answering = Answering::by_flags(nl_flags);
+        self.send_expecting(alloc, answering, nl_type, nl_flags, nl_payload)
+    }
+
+    /// Returns a request as [`send`](NlRouter::send) does, for a caller who knows how the other side answers it, as by
+    /// [`Answering::of`]: where an acknowledgement ends the answer, the handle expects one, whatever the flags are.
+    pub fn send_expecting<ST: NlType, SP: ToBytes + Drop, RT, RP>(
+        &mut self,
+        alloc: Global,
+        answering: Answering,
+        nl_type: ST,
+        nl_flags: NlmF,
+        nl_payload: NlPayload<ST, SP>,
+    ) -> Result<(Vec<u8>, NlRouterReceiverHandle<RT, RP>), RouterError<ST, SP>>
+        ensures port { D.port_of self.new.deliveries ≡ D.port_of self.old.deliveries }
+        ensures bytes { IfOk result (λ r. frame_or_refusal
+            ST.wire_number SP.wire SP.Size.wire_length
+            (D.port_of self.old.deliveries) self.old.next_seq
+            (is_some (D.pending self.old.deliveries (Some self.old.next_seq)))
+            nl_type nl_flags nl_payload ≡ Ok r.0.items) }
+        ensures refused { IfErr result (RefusesSend (frame_or_refusal
+            ST.wire_number SP.wire SP.Size.wire_length
+            (D.port_of self.old.deliveries) self.old.next_seq
+            (is_some (D.pending self.old.deliveries (Some self.old.next_seq)))
+            nl_type nl_flags nl_payload)
+            (TakesMemory ST.wire_number SP.wire SP.Size.wire_length
+            (is_some (D.pending self.old.deliveries (Some self.old.next_seq))) nl_payload)) }
+        ensures handle { IfOk result (λ r. r.1 ≡ expects self.old.next_seq answering) }
+        ensures next_seq { OnOk result (self.new.next_seq ≡ number_after self.old.next_seq) }
+        ensures opened { OnOk result (Opens self.old.next_seq
+            (D.pending self.old.deliveries) (D.pending self.new.deliveries)) }
+        ensures unchanged { OnErr result ((self.new.next_seq ≡ self.old.next_seq)
+            × (SameLists (D.pending self.old.deliveries) (D.pending self.new.deliveries))) }
+        // Nothing is known of the answer yet.
+        ensures heard { OnOk result
+            ((heard_of self.new.heard (Some self.old.next_seq) ≡ Some (begun answering))
             × SameListsBut (Some self.old.next_seq)
             (heard_of self.old.heard) (heard_of self.new.heard)) }
         ensures unheard { OnErr result
@@ -156,7 +201,7 @@ impl<D: Deliveries> NlRouter<D> {
         }
         let bytes = frame(alloc, nl_type, nl_flags, number, self.pid(), nl_payload)?;
         self.deliveries.open(number)?;
-        let Ok(_) = self.heard.insert(number, Heard::begun()) else {
+        let Ok(_) = self.heard.insert(number, Heard::begun(answering)) else {
             self.deliveries.close(Some(number));
             return Err(RouterError::Memory);
         };
@@ -164,7 +209,7 @@ impl<D: Deliveries> NlRouter<D> {
         self.next_seq = number.wrapping_add(1);
         let handle = NlRouterReceiverHandle::new(HandleState {
             number: Some(number),
-            needs_ack: needs_acknowledgement(nl_flags),
+            needs_ack: awaits(answering),
             single_given: false,
             ended: false,
         });
@@ -263,7 +308,7 @@ impl<D: Deliveries> NlRouter<D> {
             (has_number handle.old.number) handle.old.single_given item))
             × (heard_of self.new.heard handle.old.number
             ≡ option_map (heard_with T.wire_number handle.old.needs_ack
-            (has_number handle.old.number) handle.old.single_given item)
+            (has_number handle.old.number) handle.old.single_given d item)
             (heard_of self.old.heard handle.old.number))) }
         ensures unheard { SameListsBut handle.old.number
             (heard_of self.old.heard) (heard_of self.new.heard) }
@@ -286,20 +331,31 @@ impl<D: Deliveries> NlRouter<D> {
                 Ok(Reply::Item(Err(RouterError::ClosedChannel)))
             }
             Some(item) => {
+                let heading = self.heading(state.number);
                 self.deliveries.drop_first(state.number);
-                let last = is_last(state.needs_ack, &item);
                 let (after, given) = answer(state, item);
                 hear(
                     &mut self.heard,
                     &self.hints,
                     state.number,
                     after.ended,
-                    last,
+                    heading,
                     &given,
                 );
                 handle.set_state(after);
                 Ok(Reply::Item(given))
             }
+        }
+    }
+
+    /// The first delivery that waits, by its message's header.
+    fn heading(&self, whose: Option<u32>) -> Heading
+        ensures { (d : Waiting) (ds : List Waiting)
+            → D.pending self.now.deliveries whose ≡ Some (d ∷ ds) → result ≡ heading_of d }
+    {
+        match self.deliveries.first_heading(whose) {
+            None => Heading::Other,
+            Some(heading) => heading,
         }
     }
 
@@ -330,7 +386,7 @@ impl<D: Deliveries> NlRouter<D> {
     /// Returns the verdict on the answer to a request, by the items read from it: `Pending` until it has ended, unless
     /// a message is marked; then a final one, the first that holds: `Interrupted` if a returned message is marked
     /// `NLM_F_DUMP_INTR`; `Failed` if the other side answered with an error or ended a dump with one; `Lost` if
-    /// anything else arrived in place of a message; `Complete`.
+    /// anything else arrived in place of a message, or the other side's answer goes on; `Complete`.
     ///
     /// A handle that is not open here, or was given up, is `Lost(Closed)`; that of multicast is `Pending`. It takes no
     /// memory.
@@ -342,7 +398,7 @@ impl<D: Deliveries> NlRouter<D> {
             None => Verdict::Pending,
             Some(number) => match self.heard.get(&number) {
                 None => Verdict::Lost(Loss::Closed),
-                Some(heard) => heard.verdict,
+                Some(heard) => heard.settled().verdict,
             },
         }
     }
@@ -350,11 +406,14 @@ impl<D: Deliveries> NlRouter<D> {
     /// Returns what is known of the answer to a request, by the items read from it: its verdict, and whether the other
     /// side filtered. Nothing for multicast, and for a handle that is not open here. It takes no memory.
     pub fn heard<RT, RP>(&self, handle: &NlRouterReceiverHandle<RT, RP>) -> Option<Heard>
-        ensures { result ≡ heard_of self.now.heard handle.now.number }
+        ensures { result ≡ option_map settled (heard_of self.now.heard handle.now.number) }
     {
         match handle.state().number {
             None => None,
-            Some(number) => self.heard.get(&number).copied(),
+            Some(number) => match self.heard.get(&number) {
+                None => None,
+                Some(heard) => Some(heard.settled()),
+            },
         }
     }
 
@@ -374,24 +433,24 @@ impl<D: Deliveries> NlRouter<D> {
     }
 }
 
-/// Notes one more returned item of the answer to a request, at which the answer ends or not; `last` is whether it is
-/// the other side's last.
+/// Notes one more returned item of the answer to a request, at which the answer ends or not, of a delivery with this
+/// heading.
 fn hear<T, P>(
     all: &mut IndexMap<u32, Heard>,
     hints: &Hints,
     whose: Option<u32>,
     ended: bool,
-    last: bool,
+    heading: Heading,
     item: &Result<Nlmsghdr<T, P>, RouterError<T, P>>,
 )
     ensures heard { heard_of all.new whose
-        ≡ option_map (heard_after ended last item.now) (heard_of all.old whose) }
+        ≡ option_map (heard_after ended heading item.now) (heard_of all.old whose) }
     ensures others { SameListsBut whose (heard_of all.old) (heard_of all.new) }
 {
     if let Some(number) = whose {
         let hint = hints.hint(number);
         if let Some(heard) = value_of(all, hint, number) {
-            put(all, hint, number, heard.with(ended, last, item));
+            put(all, hint, number, heard.with(ended, heading, item));
         }
     }
 }

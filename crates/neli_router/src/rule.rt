@@ -1,10 +1,11 @@
 //! The reply rule, one read at a time.
 
 ghost use Rattle.std.specs.Prelude.{◌≡◌, ◌||◌};
-ghost use Rattle.neli_router.specs.Rule.{ends_alone, ends_at, has_number, is_single, item_of, last_item, needs_ack};
+ghost use Rattle.neli_router.specs.Rule.{awaits, ends_alone, ends_at, has_number, is_single, item_of, last_item, needs_ack};
 
 use crate::HandleState;
 use bitflags::Flags;
+use neli_answers::Answering;
 use neli_consts::{NLMSG_DONE, NlType, NlmF};
 use neli_reader::{NlPayload, Nlmsghdr, RouterError};
 
@@ -13,6 +14,13 @@ pub(crate) fn needs_acknowledgement(flags: NlmF) -> bool
     ensures { result ≡ needs_ack flags }
 {
     flags.contains(NlmF::ACK) && !flags.contains(NlmF::DUMP)
+}
+
+/// Whether an acknowledgement ends an answer.
+pub(crate) fn awaits(answering: Answering) -> bool
+    ensures { result ≡ awaits answering }
+{
+    matches!(answering, Answering::Acknowledgement)
 }
 
 /// Whether nothing follows an item, whatever was asked for.

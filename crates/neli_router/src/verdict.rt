@@ -1,11 +1,13 @@
 //! The verdict on an answer, by the items read from it: whether it is complete.
 
 ghost use Rattle.std.specs.Prelude.{◌≡◌};
-ghost use Rattle.neli_router.specs.Verdicts.{begun, end_code, ends_exchange, error_verdict, heard_after, is_flagged};
-ghost use Rattle.neli_router.specs.Verdicts.{fault_verdict, is_last, item_verdict, last_verdict};
+ghost use Rattle.neli_router.specs.Verdicts.{begun, end_code, error_verdict, heard_after, is_flagged, settled};
+ghost use Rattle.neli_router.specs.Verdicts.{fault_verdict, is_last, item_verdict, last_verdict, whole_verdict};
 
 use bitflags::Flags;
-use neli_consts::{NLMSG_DONE, NLMSG_ERROR, NlType, NlmF};
+use neli_answers::Answering;
+use neli_consts::NlmF;
+use neli_deliveries::Heading;
 use neli_reader::{NlPayload, Nlmsghdr, RouterError, SocketError};
 
 /// The verdict on an answer. All but [`Verdict::Pending`] are final.
@@ -39,6 +41,8 @@ pub enum Loss {
     NoAck,
     /// An acknowledgement arrived that was not requested.
     UnexpectedAck,
+    /// The reads ended before the other side's answer did: a message of a dump came without `NLM_F_MULTI`.
+    Unended,
     /// The handle is not open here.
     Closed,
 }
@@ -52,34 +56,27 @@ pub struct Heard {
     pub filtered: bool,
     /// The other side's last message of it was read, whatever ended the answer.
     pub finished: bool,
+    /// How the other side answers, which says what its last message is.
+    pub answering: Answering,
 }
 
-/// Whether a message with this type and these flags is the last that answers a request: an acknowledgement or an error;
-/// or, if no acknowledgement was requested, one without `NLM_F_MULTI`, or the end of a dump.
-pub(crate) fn ends_exchange(needs_ack: bool, number: u16, flags: NlmF) -> bool
-    ensures { result ≡ ends_exchange needs_ack number flags }
+/// Whether a delivery with this heading is the last message of an answer.
+pub(crate) fn is_last(answering: Answering, heading: Heading) -> bool
+    ensures { result ≡ is_last answering heading }
 {
-    number == NLMSG_ERROR || (!needs_ack && (!flags.contains(NlmF::MULTI) || number == NLMSG_DONE))
+    match heading {
+        Heading::Message(nl_type, nl_flags) => answering.ends_with(nl_type, nl_flags),
+        Heading::Other => false,
+    }
 }
 
-/// Whether an item is the last of the other side's answer.
-pub(crate) fn is_last<T: NlType, P>(
-    needs_ack: bool,
-    item: &Result<Nlmsghdr<T, P>, RouterError<T, P>>,
-) -> bool
-    ensures { result ≡ is_last T.wire_number needs_ack item.now }
+/// A verdict, by whether the other side's last message was read.
+pub(crate) fn whole_verdict(finished: bool, verdict: Verdict) -> Verdict
+    ensures { result ≡ whole_verdict finished verdict }
 {
-    match item {
-        Ok(message) => {
-            ends_exchange(
-                needs_ack,
-                message.nl_type().to_number(),
-                *message.nl_flags(),
-            )
-        }
-        Err(RouterError::Socket(_)) => false,
-        Err(RouterError::BadSeqOrPid(_)) => false,
-        Err(_) => !needs_ack,
+    match verdict {
+        Verdict::Complete if !finished => Verdict::Lost(Loss::Unended),
+        verdict => verdict,
     }
 }
 
@@ -163,26 +160,26 @@ pub(crate) fn item_verdict<T, P>(
 }
 
 impl Heard {
-    /// Nothing is known yet.
-    pub(crate) fn begun() -> Heard
-        ensures { result ≡ begun }
+    /// Nothing is known yet of an answer that comes so.
+    pub(crate) fn begun(answering: Answering) -> Heard
+        ensures { result ≡ begun answering }
     {
         Heard {
             verdict: Verdict::Pending,
             filtered: false,
             finished: false,
+            answering,
         }
     }
 
-    /// What is known with one more returned item, at which the answer ends or not; `last` is whether it is the other
-    /// side's last.
+    /// What is known with one more returned item, at which the answer ends or not, of a delivery with this heading.
     pub(crate) fn with<T, P>(
         self,
         ended: bool,
-        last: bool,
+        heading: Heading,
         item: &Result<Nlmsghdr<T, P>, RouterError<T, P>>,
     ) -> Heard
-        ensures { result ≡ heard_after ended last item.now self }
+        ensures { result ≡ heard_after ended heading item.now self }
     {
         let verdict = match self.verdict {
             Verdict::Pending => item_verdict(ended, item),
@@ -191,7 +188,18 @@ impl Heard {
         Heard {
             verdict,
             filtered: self.filtered || has_flag(NlmF::DUMP_FILTERED, item),
-            finished: self.finished || last,
+            finished: self.finished || is_last(self.answering, heading),
+            answering: self.answering,
+        }
+    }
+
+    /// The same with the final verdict.
+    pub(crate) fn settled(self) -> Heard
+        ensures { result ≡ settled self }
+    {
+        Heard {
+            verdict: whole_verdict(self.finished, self.verdict),
+            ..self
         }
     }
 }

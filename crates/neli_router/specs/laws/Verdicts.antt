@@ -395,18 +395,24 @@ module _ {K P : Type 0} (number_of : K → ℕ) (needs numbered : Bool) where
       ∙ ap (λ (b : Bool). b || is_single number_of numbered x)
       (single_append number_of numbered items (x ∷ []) (length items) (omega arith)))
 
+  -- one of the given items passes
+  pub any_next : (p : Item K P → Bool) (items : List (Item K P)) (x : Item K P)
+      → list_any p (given_of number_of needs numbered (items ++ x ∷ []))
+      ≡ (list_any p (given_of number_of needs numbered items) || (not (stops items)
+      && p (item_of number_of needs numbered (gave items) x)))
+  any_next p items x = elim (true_or_false (stops items)) [
+    | inl over ↦ rw (over, given_stays number_of needs numbered items (x ∷ []) over)
+        (sym (or_false (list_any p (given_of number_of needs numbered items))))
+    | inr goes ↦ rw (goes, given_more number_of needs numbered items x goes)
+        (list_any-append p (given_of number_of needs numbered items) (item_of number_of needs numbered (gave items) x ∷ [])
+        ∙ ap (λ (b : Bool). list_any p (given_of number_of needs numbered items) || b)
+        (or_false (p (item_of number_of needs numbered (gave items) x))))
+  ]
+
   pub filtered_next : (items : List (Item K P)) (x : Item K P) → is_filtered number_of needs numbered (items ++ x ∷ [])
       ≡ (is_filtered number_of needs numbered items || (not (stops items)
       && is_flagged 32 (item_of number_of needs numbered (gave items) x)))
-  filtered_next items x = elim (true_or_false (stops items)) [
-    | inl over ↦ rw (over, given_stays number_of needs numbered items (x ∷ []) over)
-        (sym (or_false (is_filtered number_of needs numbered items)))
-    | inr goes ↦ rw (goes, given_more number_of needs numbered items x goes)
-        (list_any-append (is_flagged 32) (given_of number_of needs numbered items)
-        (item_of number_of needs numbered (gave items) x ∷ [])
-        ∙ ap (λ (b : Bool). is_filtered number_of needs numbered items || b)
-        (or_false (is_flagged 32 (item_of number_of needs numbered (gave items) x))))
-  ]
+  filtered_next items x = any_next (is_flagged 32) items x
 
   -- ---- what was given, as a list of its own
 

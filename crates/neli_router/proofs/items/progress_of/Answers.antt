@@ -1,6 +1,7 @@
 use Rattle.std.proofs.Common.{◌≡◌, ◌++◌, ◌∷◌, ◌+◌, [], true, take, sym, ap, ◌∙◌}
 use Rattle.std.proofs.lemmas.List.{take_more}
-use Rattle.neli_router.specs.laws.Verdicts.{filtered_next, gave_next, stops_next, verdict_next}
+use Rattle.neli_router.specs.laws.Verdicts.{any_next, filtered_next, gave_next, stops_next, verdict_next}
+use Rattle.neli_router.specs.Verdicts.{is_last_item}
 use Rattle.neli_router.proofs.items.progress_of.Goals as goal
 
 pub loop-item-preserved : goal.loop-item-preserved
@@ -23,6 +24,13 @@ loop-item-preserved g c =
         ← inv.stops,
         ← inv.gave,
       ) c.with-progress.ensures.filtered;
+      finished = rw (
+        more,
+        any_next number_of needs true (is_last_item number_of c.args.answering) front x,
+        ← inv.finished,
+        ← inv.stops,
+        ← inv.gave,
+      ) c.with-progress.ensures.finished;
       gave = rw (more, gave_next number_of needs true front x, ← inv.gave) c.with-progress.ensures.single_given;
       stops = rw (more, stops_next number_of needs true front x, ← inv.stops, ← inv.gave) c.with-progress.ensures.ended;
     }

@@ -26,7 +26,7 @@ returns-clause-passes g c = λ open_ d ds waits.
       ended = ends_at (λ n. n) h.needs_ack (has_number h.number) h.single_given (untyped d);
     })) c.state-state.ensures (
       c.drop_first.ensures.taken d ds still,
-      after_step s c.set_state-2.new.self (untyped d) c.step_past-step.result is
+      after_step s c.set_state-2.new.self d c.step_past-step.result is
           (c.set_state-2.ensures ∙ c.state_after-after.ensures),
     )
 
@@ -37,6 +37,6 @@ returns-clause-heard g c = λ open_ d ds waits.
     let is = steps_past s (pending_of c.args.self.now.deliveries s.number) c.lend_first.result c.in-Some.delivery
     c.step_past-step.result d ds c.lend_first.ensures c.in-Some.is c.step_past-step.ensures still in
     subst (λ (h : HandleState). heard_of c.hear.new.all h.number ≡ option_map (heard_with (λ n. n) h.needs_ack
-    (has_number h.number) h.single_given (untyped d)) (heard_of c.args.self.now.heard h.number)) c.state-state.ensures
-    (known_step c.step_past-step.result s.needs_ack (has_number s.number) s.single_given (untyped d)
+    (has_number h.number) h.single_given d (untyped d)) (heard_of c.args.self.now.heard h.number)) c.state-state.ensures
+    (known_step c.step_past-step.result s.needs_ack (has_number s.number) s.single_given d
     (heard_of c.args.self.now.heard s.number) (heard_of c.hear.new.all s.number) is c.hear.ensures.heard)

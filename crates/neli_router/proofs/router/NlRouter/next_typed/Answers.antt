@@ -10,8 +10,9 @@ returns-in-Some-clause-heard g c = λ e d ds p. (
   search rules,
   search rules,
   heard-by g.T.Constant.wire_number c.args.handle.now.needs_ack (has_number c.args.handle.now.number)
-      c.args.handle.now.single_given c.answer-given.result.0.ended c.is_last-last.result c.in-Some.item
+      c.args.handle.now.single_given c.answer-given.result.0.ended c.heading-heading.result d c.in-Some.item
       c.answer-given.result.1 (heard_of c.args.self.now.heard c.args.handle.now.number)
-      (heard_of c.hear.new.all c.args.handle.now.number) (search rules) (search rules) (search rules)
+      (heard_of c.hear.new.all c.args.handle.now.number) (search rules)
+      (rw c.state-state.ensures at c.heading-heading.ensures d ds p) (search rules)
       (rw c.state-state.ensures at c.hear.ensures.heard),
 )
