@@ -1,3 +1,4 @@
 mod Messages
 mod Queues
 mod Datagrams
+mod AllRead

@@ -17,6 +17,7 @@
 #![tactic(auto)]
 
 mod chunk;
+pub mod laws;
 mod loss;
 mod queue;
 mod reading;

@@ -1,0 +1,217 @@
+-- What reads return, one happening more at a time.
+use Rattle.std.proofs.Common.{ℕ, ◌≡◌, Bool, true, false, not, ◌&&◌, ◌||◌, List, [], ◌∷◌, ◌++◌, Option, Some, None, Ok, Err}
+use Rattle.std.proofs.Common.{refl, sym, subst, ap, ◌∙◌}
+use Rattle.std.specs.Prelude.{◌==◌, if◌then◌else◌, is_some}
+use Rattle.neli_answers.specs.Answers.{ends_answer}
+use Rattle.neli_answers.specs.declared.answering.Answering.{Answering}
+use Rattle.neli_lent.specs.Messages.{Lent}
+use Rattle.neli_session.specs.declared.loss.Loss.{Loss}
+use Rattle.neli_session.specs.declared.request.Request.{Request}
+use Rattle.neli_session.specs.declared.request.Stage.{Stage}
+use Rattle.neli_session.specs.declared.request.Stage.TheVariants as stage
+use Rattle.neli_session.specs.declared.request.Verdict.{Verdict}
+use Rattle.neli_session.specs.Requests.{answers, heard, is_awaited, is_over}
+use Rattle.neli_session.specs.Sessions.{after_all, after_own, expected, is_own, kept}
+use Rattle.neli_session.specs.Happenings.{Happening, Came, Lost, Emptied, Read, after_happenings, answer, came_for}
+use Rattle.neli_session.specs.Happenings.{left, returned, returned_by, then_is}
+use Rattle.neli_session.specs.Waiting.{Item}
+
+append-assoc : (xs ys zs : List Item) → (xs ++ ys) ++ zs ≡ xs ++ (ys ++ zs)
+append-assoc [] ys zs = refl
+append-assoc (x ∷ xs) ys zs = ap (λ (ws : List Item). x ∷ ws) (append-assoc xs ys zs)
+
+append-none : (xs : List Item) → xs ++ [] ≡ xs
+append-none [] = refl
+append-none (x ∷ xs) = ap (λ (ys : List Item). x ∷ ys) (append-none xs)
+
+-- somebody reads, and no loss was read that did not come
+pub record IsSound (r : Request) : Type 0 where
+  pub open_is : r.is_open ≡ true
+  pub told : r.loss ≡ None → r.is_told ≡ false
+
+-- what is still to come for it: nothing where it has ended, or something was lost
+abbrev pub future : Request → List Happening → List Item
+future r hs = if is_awaited r.stage && not (is_some r.loss) then answer r.answering r.echoes hs else []
+
+-- ---- a request by its fields
+
+abbrev made : Answering → Bool → Stage → List Item → Option Loss → Bool → Verdict → Request
+made a e s w l t v = record {
+  answering = a;
+  echoes = e;
+  stage = s;
+  is_open = true;
+  waiting = w;
+  loss = l;
+  is_told = t;
+  noted = v;
+}
+
+module _ (a : Answering) (e : Bool) (v : Verdict) (hs : List Happening) where
+  -- a message came while the answer is awaited, and nothing was lost
+  came : (m : Lent ℕ) (w : List Item) (mine : Bool)
+      → (left (if mine then made a e (if ends_answer a m.0.message_type m.0.flags then stage.Ended else stage.Awaited)
+      (w ++ Ok m ∷ []) None false v else made a e stage.Awaited w None false v)
+      ++ future (if mine then made a e (if ends_answer a m.0.message_type m.0.flags then stage.Ended
+      else stage.Awaited) (w ++ Ok m ∷ []) None false v else made a e stage.Awaited w None false v) hs)
+      ≡ (w ++ []) ++ (if mine then Ok m ∷ (if ends_answer a m.0.message_type m.0.flags then [] else answer a e hs)
+      else answer a e hs)
+  came m w true = ends (ends_answer a m.0.message_type m.0.flags)
+    where
+      ends : (b : Bool) → (left (made a e (if b then stage.Ended else stage.Awaited) (w ++ Ok m ∷ []) None false v)
+          ++ future (made a e (if b then stage.Ended else stage.Awaited) (w ++ Ok m ∷ []) None false v) hs)
+          ≡ (w ++ []) ++ (Ok m ∷ (if b then [] else answer a e hs))
+      ends true = append-none ((w ++ Ok m ∷ []) ++ []) ∙ append-none (w ++ Ok m ∷ [])
+          ∙ ap (λ (xs : List Item). xs ++ Ok m ∷ []) (sym (append-none w))
+      ends false = ap (λ (xs : List Item). xs ++ answer a e hs) (append-none (w ++ Ok m ∷ []))
+          ∙ append-assoc w (Ok m ∷ []) (answer a e hs)
+          ∙ ap (λ (xs : List Item). xs ++ (Ok m ∷ answer a e hs)) (sym (append-none w))
+  came m w false = refl
+
+  -- a message came after a loss: it is not kept
+  came_late : (m : Lent ℕ) (w : List Item) (x : Loss) (t mine ends : Bool)
+      → (left (if mine then made a e (if ends then stage.Ended else stage.Awaited) w (Some x) t v
+      else made a e stage.Awaited w (Some x) t v)
+      ++ future (if mine then made a e (if ends then stage.Ended else stage.Awaited) w (Some x) t v
+      else made a e stage.Awaited w (Some x) t v) hs)
+      ≡ left (made a e stage.Awaited w (Some x) t v) ++ []
+  came_late m w x t true true = refl
+  came_late m w x t true false = refl
+  came_late m w x t false ends = refl
+
+  step-by : (h : Happening) (s : Stage) (w : List Item) (l : Option Loss) (t : Bool) → (l ≡ None → t ≡ false)
+      → returned h (made a e s w l t v) ++ (left (then_is h (made a e s w l t v))
+      ++ future (then_is h (made a e s w l t v)) hs)
+      ≡ left (made a e s w l t v) ++ future (made a e s w l t v) (h ∷ hs)
+  step-by (Came group m) stage.Awaited w None true told = (let no = told refl in cc)
+  step-by (Came group m) stage.Awaited w None false told = came m w ((group == 0) || e)
+  step-by (Came group m) stage.Awaited w (Some x) t told =
+      came_late m w x t ((group == 0) || e) (ends_answer a m.0.message_type m.0.flags)
+  step-by (Came group m) stage.Ended w l t told = refl
+  step-by (Came group m) stage.Silent w l t told = refl
+  step-by (Lost y) stage.Awaited w None true told = (let no = told refl in cc)
+  step-by (Lost y) stage.Awaited w None false told = append-none (w ++ Err y ∷ [])
+      ∙ ap (λ (xs : List Item). xs ++ Err y ∷ []) (sym (append-none w))
+  step-by (Lost y) stage.Awaited w (Some x) t told = refl
+  step-by (Lost y) stage.Ended w l t told = refl
+  step-by (Lost y) stage.Silent w l t told = refl
+  step-by Emptied stage.Awaited w None t told = refl
+  step-by Emptied stage.Awaited w (Some x) t told = refl
+  step-by Emptied stage.Ended w l t told = refl
+  step-by Emptied stage.Silent w l t told = refl
+  step-by Read s (x ∷ w) l t told = refl
+  step-by Read s [] None true told = refl
+  step-by Read s [] None false told = refl
+  step-by Read s [] (Some x) true told = refl
+  step-by Read s [] (Some x) false told = refl
+
+  sound-came : (m : Lent ℕ) (s : Stage) (w w' : List Item) (s' : Stage) (l : Option Loss) (t mine : Bool)
+      → (l ≡ None → t ≡ false) → IsSound (if mine then made a e s' w' l t v else made a e s w l t v)
+  sound-came m s w w' s' l t true told = record { open_is = refl; told = told }
+  sound-came m s w w' s' l t false told = record { open_is = refl; told = told }
+
+sound-by : (a : Answering) (e : Bool) (v : Verdict) (h : Happening) (s : Stage) (w : List Item) (l : Option Loss) (t : Bool)
+    → (l ≡ None → t ≡ false) → IsSound (then_is h (made a e s w l t v))
+sound-by a e v (Came group m) stage.Awaited w None t told =
+    sound-came a e v [] m stage.Awaited w (w ++ Ok m ∷ [])
+    (if ends_answer a m.0.message_type m.0.flags then stage.Ended else stage.Awaited) None t ((group == 0) || e) told
+sound-by a e v (Came group m) stage.Awaited w (Some x) t told =
+    sound-came a e v [] m stage.Awaited w w
+    (if ends_answer a m.0.message_type m.0.flags then stage.Ended else stage.Awaited) (Some x) t ((group == 0) || e) told
+sound-by a e v (Came group m) stage.Ended w l t told = record { open_is = refl; told = told }
+sound-by a e v (Came group m) stage.Silent w l t told = record { open_is = refl; told = told }
+sound-by a e v (Lost y) stage.Awaited w None t told = record { open_is = refl; told = λ n. cc }
+sound-by a e v (Lost y) stage.Awaited w (Some x) t told = record { open_is = refl; told = told }
+sound-by a e v (Lost y) stage.Ended w l t told = record { open_is = refl; told = told }
+sound-by a e v (Lost y) stage.Silent w l t told = record { open_is = refl; told = told }
+sound-by a e v Emptied stage.Awaited w l t told = record { open_is = refl; told = told }
+sound-by a e v Emptied stage.Ended w l t told = record { open_is = refl; told = told }
+sound-by a e v Emptied stage.Silent w l t told = record { open_is = refl; told = told }
+sound-by a e v Read s (x ∷ w) l t told = record { open_is = refl; told = told }
+sound-by a e v Read s [] None true told = record { open_is = refl; told = told }
+sound-by a e v Read s [] None false told = record { open_is = refl; told = told }
+sound-by a e v Read s [] (Some x) true told = record { open_is = refl; told = λ n. cc }
+sound-by a e v Read s [] (Some x) false told = record { open_is = refl; told = λ n. cc }
+
+abbrev nothing : List Item
+nothing = []
+
+no-future : (r : Request) → future r [] ≡ []
+no-future r = go (is_awaited r.stage && not (is_some r.loss))
+  where
+    go : (b : Bool) → (if b then nothing else nothing) ≡ nothing
+    go true = refl
+    go false = refl
+
+-- every request with a reader is made of its fields
+made-of : (r : Request) → r.is_open ≡ true
+    → made r.answering r.echoes r.stage r.waiting r.loss r.is_told r.noted ≡ r
+made-of r is = ap (λ (b : Bool). record r { is_open = b }) (sym is)
+
+step : (h : Happening) (hs : List Happening) (r : Request) → IsSound r
+    → returned h r ++ (left (then_is h r) ++ future (then_is h r) hs) ≡ left r ++ future r (h ∷ hs)
+step h hs r sound =
+    subst (λ (x : Request). returned h x ++ (left (then_is h x) ++ future (then_is h x) hs) ≡ left x ++ future x (h ∷ hs))
+    (made-of r sound.open_is) (step-by r.answering r.echoes r.noted hs h r.stage r.waiting r.loss r.is_told sound.told)
+
+stays-sound : (h : Happening) (r : Request) → IsSound r → IsSound (then_is h r)
+stays-sound h r sound = subst (λ (x : Request). IsSound (then_is h x)) (made-of r sound.open_is)
+    (sound-by r.answering r.echoes r.noted h r.stage r.waiting r.loss r.is_told sound.told)
+
+all-read : (hs : List Happening) (r : Request) → IsSound r
+    → returned_by hs r ++ left (after_happenings hs r) ≡ left r ++ future r hs
+all-read [] r sound = sym (append-none (left r)) ∙ ap (λ (xs : List Item). left r ++ xs) (sym (no-future r))
+all-read (h ∷ hs) r sound =
+    append-assoc (returned h r) (returned_by hs (then_is h r)) (left (after_happenings hs (then_is h r)))
+    ∙ ap (λ (xs : List Item). returned h r ++ xs) (all-read hs (then_is h r) (stays-sound h r sound))
+    ∙ step h hs r sound
+
+pub reads-answer : (a : Answering) (e : Bool) (hs : List Happening)
+    → returned_by hs (expected a e) ++ left (after_happenings hs (expected a e)) ≡ answer a e hs
+reads-answer a e hs = all-read hs (expected a e) (record { open_is = refl; told = λ n. refl })
+
+-- ---- messages of a datagram
+
+abbrev gone : Option Request
+gone = None
+
+-- a message that came for a request that is read
+open-kept : (group : ℕ) (m : Lent ℕ) (r : Request) → r.is_open ≡ true
+    → after_own group m (Some r) ≡ Some (then_is (Came group m) r)
+open-kept group m r is = go (answers group r)
+  where
+    stays : (b : Bool) → r.is_open ≡ true
+        → (if b && not r.is_open then gone else Some (heard m r)) ≡ Some (heard m r)
+    stays true is = rw is refl
+    stays false is = refl
+
+    go : (b : Bool) → (if b then kept (Some (heard m r)) else Some r) ≡ Some (if b then heard m r else r)
+    go true = stays (is_over (heard m r).stage) is
+    go false = refl
+
+open-stays : (group : ℕ) (m : Lent ℕ) (r : Request) → r.is_open ≡ true → (then_is (Came group m) r).is_open ≡ true
+open-stays group m r is = go (answers group r)
+  where
+    go : (b : Bool) → (if b then heard m r else r).is_open ≡ true
+    go true = is
+    go false = is
+
+pub messages-happen : (port group q : ℕ) (ms : List (Lent ℕ)) (r : Request) → r.is_open ≡ true
+    → after_all port group ms q (Some r) ≡ Some (after_happenings (came_for port group q ms) r)
+messages-happen port group q [] r is = refl
+messages-happen port group q (m ∷ ms) r is =
+    go (is_own port m) (m.0.sequence_number == q)
+    (ap (λ (o : Option Request). after_all port group ms q o) (open-kept group m r is)
+    ∙ messages-happen port group q ms (then_is (Came group m) r) (open-stays group m r is))
+    (messages-happen port group q ms r is)
+  where
+    go : (own mine : Bool) → after_all port group ms q (after_own group m (Some r))
+        ≡ Some (after_happenings (came_for port group q ms) (then_is (Came group m) r))
+        → after_all port group ms q (Some r) ≡ Some (after_happenings (came_for port group q ms) r)
+        → after_all port group ms q
+        (if own then (if mine then after_own group m (Some r) else Some r) else Some r)
+        ≡ Some (after_happenings (if own && mine then Came group m ∷ came_for port group q ms
+        else came_for port group q ms) r)
+    go true true came other = came
+    go true false came other = other
+    go false mine came other = other

@@ -1,0 +1,91 @@
+-- All that happens to one request, and what its reads return.
+use Rattle.std.specs.Prelude.{◌≡◌, ℕ, Bool, true, ◌&&◌, ◌||◌, ◌==◌, if◌then◌else◌, List, [], ◌∷◌, ◌++◌}
+use Rattle.std.specs.Prelude.{Option, Some, None, Ok, Err}
+use Rattle.neli_answers.specs.Answers.{ends_answer}
+use Rattle.neli_answers.specs.declared.answering.Answering.{Answering}
+use Rattle.neli_lent.specs.Messages.{Lent}
+use Rattle.neli_session.specs.declared.loss.Loss.{Loss}
+use Rattle.neli_session.specs.declared.request.Request.{Request}
+use Rattle.neli_session.specs.Requests.{answers, heard, lost, next_item, passed, quiet, untold}
+use Rattle.neli_session.specs.Sessions.{after_all, expected, is_own}
+use Rattle.neli_session.specs.Waiting.{Item}
+
+-- a message with its number came, of this group or of none; something was lost; the link was seen empty; it was read
+pub data Happening : Type 0 where
+  Came : ℕ → Lent ℕ → Happening
+  Lost : Loss → Happening
+  Emptied : Happening
+  Read : Happening
+
+-- as a list
+abbrev pub item_list : Option Item → List Item
+item_list None = []
+item_list (Some x) = x ∷ []
+
+abbrev pub loss_list : Option Loss → List Item
+loss_list None = []
+loss_list (Some l) = Err l ∷ []
+
+-- ---- by the calls, one after the other
+
+-- the request after it
+abbrev pub then_is : Happening → Request → Request
+then_is (Came group m) r = if answers group r then heard m r else r
+then_is (Lost l) r = lost l r
+then_is Emptied r = quiet r
+then_is Read r = passed r
+
+-- the item that a read returned, if it returned one
+abbrev pub returned : Happening → Request → List Item
+returned Read r = item_list (next_item r)
+returned h r = []
+
+-- all that its reads returned, in order, and how the request is then
+abbrev pub returned_by : List Happening → Request → List Item
+returned_by [] r = []
+returned_by (h ∷ hs) r = returned h r ++ returned_by hs (then_is h r)
+
+abbrev pub after_happenings : List Happening → Request → Request
+after_happenings [] r = r
+after_happenings (h ∷ hs) r = after_happenings hs (then_is h r)
+
+-- what is still to be read: what waits, and the loss if it was not read
+abbrev pub left : Request → List Item
+left r = r.waiting ++ loss_list (untold r)
+
+-- ---- by the whole of it
+
+-- the answer: the messages for no group, or for any if its notifications are part of it, up to the first that ends it;
+-- but up to the first loss, if that comes before, and then the loss; and nothing after the link was seen empty
+abbrev pub answer : Answering → Bool → List Happening → List Item
+answer a echoes [] = []
+answer a echoes (Came group m ∷ hs) =
+    if (group == 0) || echoes then Ok m ∷ (if ends_answer a m.0.message_type m.0.flags then [] else answer a echoes hs)
+    else answer a echoes hs
+answer a echoes (Lost l ∷ hs) = Err l ∷ []
+answer a echoes (Emptied ∷ hs) = []
+answer a echoes (Read ∷ hs) = answer a echoes hs
+
+-- ---- what a call is for one request
+
+-- of the messages of a datagram of this group, those that came for the request with the number q of this port
+abbrev pub came_for : ℕ → ℕ → ℕ → List (Lent ℕ) → List Happening
+came_for port group q [] = []
+came_for port group q (m ∷ ms) =
+    if is_own port m && (m.0.sequence_number == q) then Came group m ∷ came_for port group q ms
+    else came_for port group q ms
+
+-- ---- the laws
+
+-- messages change a request that somebody reads as those do that came for it
+abbrev pub DatagramsAreHappenings : Type 0
+DatagramsAreHappenings =
+    (port group q : ℕ) (ms : List (Lent ℕ)) (r : Request) → r.is_open ≡ true
+    → after_all port group ms q (Some r) ≡ Some (after_happenings (came_for port group q ms) r)
+
+-- whatever happens to a request that was sent: what its reads returned, and then what is still to be read, is the
+-- answer, each item once and in order
+abbrev pub ReadsAreTheAnswer : Type 0
+ReadsAreTheAnswer =
+    (a : Answering) (echoes : Bool) (hs : List Happening)
+    → returned_by hs (expected a echoes) ++ left (after_happenings hs (expected a echoes)) ≡ answer a echoes hs
