@@ -6,14 +6,17 @@ use Rattle.std.specs.Option.{option_map}
 use Rattle.std.proofs.lemmas.List.{append-nil, append_assoc}
 use Rattle.neli_wire.specs.declared.errors.DeError.{DeError}
 use Rattle.neli_deliveries.specs.declared.delivery.Delivery.{Delivery}
+use Rattle.neli_deliveries.specs.Deliveries.{heading_of}
 use Rattle.neli_deliveries.specs.Readings.{Item}
+use Rattle.neli_deliveries.specs.declared.delivery.Heading.{Heading}
+use Rattle.neli_router.specs.GivenUp.{finishes}
 use Rattle.neli_router.specs.declared.verdict.Heard.{Heard}
 use Rattle.neli_router.specs.declared.verdict.Verdict.{Verdict}
 use Rattle.neli_router.specs.declared.verdict.Verdict.TheVariants as stands
 use Rattle.neli_router.specs.Rule.{ends_at, has_number, item_of}
-use Rattle.neli_router.specs.Verdicts.{given_of, heard_after, verdict, verdict_with}
+use Rattle.neli_router.specs.Verdicts.{given_of, heard_after, is_last, verdict, verdict_with}
 use Rattle.neli_router.specs.laws.Verdicts.{gave, gave_next, given_more, stops, stops_next, verdict_next}
-use Rattle.neli_short_router.specs.Answers.{HasRead, HasVerdict, IsAnswer}
+use Rattle.neli_short_router.specs.Answers.{HasFinished, HasRead, HasVerdict, IsAnswer}
 use Rattle.neli_short_router.specs.Reads.{AreReads, Gives, IsRead, Stand, stand_after}
 
 -- ---- one read more
@@ -44,17 +47,39 @@ or_false : (a b : Bool) → a ≡ false → (a || b) ≡ b
 or_false true b e = cc
 or_false false b e = refl
 
-heard_next : {K P : Type 0} (v : Verdict) (heard : Option Heard) (ends last : Bool) (x : Item K P) → HasVerdict v heard
-    → HasVerdict (verdict_with v ends x) (option_map (heard_after ends last x) heard)
-heard_next v None ends last x is = tt
-heard_next v (Some h) ends last x is = ap (λ (w : Verdict). verdict_with w ends x) is
+heard_next : {K P : Type 0} (v : Verdict) (heard : Option Heard) (ends : Bool) (k : Heading) (x : Item K P)
+    → HasVerdict v heard → HasVerdict (verdict_with v ends x) (option_map (heard_after ends k x) heard)
+heard_next v None ends k x is = tt
+heard_next v (Some h) ends k x is = ap (λ (w : Verdict). verdict_with w ends x) is
+
+-- ---- whether the other side's answer has ended
+
+or_none : (b : Bool) → b ≡ (b || false)
+or_none true = refl
+or_none false = refl
+
+or_more : (a b c : Bool) → ((a || b) || c) ≡ (a || (b || c))
+or_more true b c = refl
+or_more false b c = refl
+
+finished_none : (heard : Option Heard) → HasFinished [] heard heard
+finished_none None = refl
+finished_none (Some h) = (refl, or_none h.finished)
+
+finished_more : {K P : Type 0} (ds : List Delivery) (d : Delivery) (before after : Option Heard) (ends : Bool)
+    (x : Item K P) → HasFinished ds (option_map (heard_after ends (heading_of d) x) before) after
+    → HasFinished (d ∷ ds) before after
+finished_more ds d None after ends x is = is
+finished_more ds d (Some b) None ends x is = absurd is
+finished_more ds d (Some b) (Some a) ends x is =
+    (is.0, is.1 ∙ or_more b.finished (is_last b.answering (heading_of d)) (finishes b.answering ds))
 
 module _ {K P : Type 0} (number_of : K → ℕ) where
   -- after one item more
-  has_read_more : (before : List (Item K P)) (s : Stand) (ds : List Delivery) (item : Item K P) (last : Bool)
+  has_read_more : (before : List (Item K P)) (s : Stand) (d : Delivery) (ds : List Delivery) (item : Item K P)
       → HasRead number_of before s → s.handle.ended ≡ false
-      → HasRead number_of (before ++ item ∷ []) (stand_after number_of s.handle ds s.heard item last)
-  has_read_more before s ds item last has goes =
+      → HasRead number_of (before ++ item ∷ []) (stand_after number_of s.handle d ds s.heard item)
+  has_read_more before s d ds item has goes =
       let needs = s.handle.needs_ack in
       let numbered = has_number s.handle.number in
       let single = s.handle.single_given in
@@ -66,7 +91,7 @@ module _ {K P : Type 0} (number_of : K → ℕ) where
             (ends_at number_of needs numbered single item) goes));
         verdict = rw (verdict_next number_of needs numbered before item, ← gave_is)
             (heard_next (verdict number_of needs numbered before) s.heard (ends_at number_of needs numbered single item)
-            last (item_of number_of needs numbered single item) has.verdict);
+            (heading_of d) (item_of number_of needs numbered single item) has.verdict);
       }
 
   -- and one item in front of those that later reads return
@@ -100,7 +125,7 @@ module _ {K P V : Type 0} (type_of : ℕ → K) (number_of : K → ℕ) (view : 
   -- what reads return from here on
   abbrev Goes : Stand → List (Item K P) → List Delivery → List (Item K P) → Stand → Type 0
   Goes s before ds given t =
-      IsAnswer type_of number_of view size read s.handle.needs_ack (has_number s.handle.number) before ds given t
+      IsAnswer type_of number_of view size read s.handle.needs_ack (has_number s.handle.number) s.heard before ds given t
 
   goes_from : (s u t : Stand) (x : Item K P) (xs before : List (Item K P)) (ds : List Delivery)
       → HasRead number_of before s → s.handle.ended ≡ false
@@ -114,10 +139,10 @@ module _ {K P V : Type 0} (type_of : ℕ → K) (number_of : K → ℕ) (view : 
       let needs = s.handle.needs_ack in
       let numbered = has_number s.handle.number in
       let item = gives.0 in
-      let after = stand_after number_of s.handle ds s.heard item gives.3.0 in
+      let after = stand_after number_of s.handle d ds s.heard item in
       let rest : Goes after (before ++ item ∷ []) ds xs t =
-      next after (before ++ item ∷ []) ds (has_read_more number_of before s ds item gives.3.0 has goes) refl
-      (subst (λ (r : Stand). AreReads type_of number_of view size read r xs t) gives.3.1 later) in
+      next after (before ++ item ∷ []) ds (has_read_more number_of before s d ds item has goes) refl
+      (subst (λ (r : Stand). AreReads type_of number_of view size read r xs t) gives.3 later) in
       record {
         taken = d ∷ rest.taken;
         left = rest.left;
@@ -128,6 +153,8 @@ module _ {K P V : Type 0} (type_of : ℕ → K) (number_of : K → ℕ) (view : 
             (gives.2 ∙ ap (λ (b : Bool). item_of number_of needs numbered b item) has.single) rest.given_all;
         stands = subst (λ (ys : List (Item K P)). HasRead number_of ys t)
             (append_assoc before (item ∷ []) rest.readings) rest.stands;
+        finished = finished_more rest.taken d s.heard t.heard (ends_at number_of needs numbered s.handle.single_given item)
+            (item_of number_of needs numbered s.handle.single_given item) rest.finished;
         waits = rest.waits;
       }
 
@@ -145,6 +172,7 @@ module _ {K P V : Type 0} (type_of : ℕ → K) (number_of : K → ℕ) (view : 
             ∙ sym (append-nil (given_of number_of s.handle.needs_ack numbered before));
         stands = subst (λ (ys : List (Item K P)). HasRead number_of ys t) (sym (append-nil before))
             (subst (λ (r : Stand). HasRead number_of before r) (sym are) has);
+        finished = subst (λ (r : Stand). HasFinished [] s.heard r.heard) (sym are) (finished_none s.heard);
         waits = ap (λ (r : Stand). r.waits) are ∙ waits;
       }
   goes_on s t before (x ∷ xs) ds has waits are =

@@ -10,6 +10,7 @@ use Rattle.neli_reader.specs.NlPayload.TheVariants as payload
 use Rattle.neli_reader.specs.RouterError.TheVariants as router
 use Rattle.neli_deliveries.specs.declared.delivery.Delivery.{Delivery}
 use Rattle.neli_deliveries.specs.declared.delivery.Delivery.TheVariants as delivery
+use Rattle.neli_deliveries.specs.Deliveries.{heading_of}
 use Rattle.neli_deliveries.specs.Readings.{IsReading, Item}
 use Rattle.neli_router.specs.declared.handle.HandleState.{HandleState}
 use Rattle.neli_router.specs.declared.reply.Reply.{Reply}
@@ -17,7 +18,7 @@ use Rattle.neli_router.specs.declared.reply.Reply.TheVariants as reply
 use Rattle.neli_router.specs.declared.router.NlRouter.{NlRouter}
 use Rattle.neli_router.specs.declared.verdict.Heard.{Heard}
 use Rattle.neli_router.specs.Rule.{ends_alone, ends_at, has_number, is_single, item_of, last_item, last_item_of_payload}
-use Rattle.neli_router.specs.Verdicts.{heard_after, heard_with, is_last}
+use Rattle.neli_router.specs.Verdicts.{heard_after, heard_with}
 use Rattle.neli_router.specs.laws.Places.{true_or_false}
 use Rattle.neli_short_router.specs.Reads.{Gives, IsRead, LeavesRest, Stand, stand_after, standing}
 
@@ -152,7 +153,7 @@ module _ {K P V : Type 0} (type_of : ℕ → K) (number_of : K → ℕ) (view : 
   Known d =
       (item : Item K P) × IsReading type_of view size read d item
       × (reply.Item x ≡ reply.Item (item_of number_of s.handle.needs_ack number s.handle.single_given item))
-      × (t.heard ≡ option_map (heard_with number_of s.handle.needs_ack number s.handle.single_given item) s.heard)
+      × (t.heard ≡ option_map (heard_with number_of s.handle.needs_ack number s.handle.single_given d item) s.heard)
 
   by_first : (d : Delivery) (ds : List Delivery) → Given d ds → Known d
       → Gives type_of number_of view size read s.handle (Some (d ∷ ds)) s.heard x t
@@ -165,13 +166,11 @@ module _ {K P V : Type 0} (type_of : ℕ → K) (number_of : K → ℕ) (view : 
       let too : x ≡ item_of number_of needs number after also = inner known.2 in
       let ends : ends_at number_of needs number after also ≡ ends_at number_of needs number after item =
       same_ends needs after number_of number also item (sym too ∙ is) in
-      let last = is_last number_of needs also in
       let given_same : item_of number_of needs number after also ≡ item_of number_of needs number after item =
       sym too ∙ is in
-      let heard : t.heard ≡ option_map (heard_after (ends_at number_of needs number after item) last
-      (item_of number_of needs number after item)) s.heard =
-      known.3 ∙ ap₂ (λ (b : Bool) (y : Item K P). option_map (heard_after b last y) s.heard) ends given_same in
-      (item, given.1, is, (last, same_stand t (stand_after number_of s.handle ds s.heard item last) given.4 given.3 heard))
+      let heard : t.heard ≡ option_map (heard_with number_of needs number after d item) s.heard =
+      known.3 ∙ ap₂ (λ (b : Bool) (y : Item K P). option_map (heard_after b (heading_of d) y) s.heard) ends given_same in
+      (item, given.1, is, same_stand t (stand_after number_of s.handle d ds s.heard item) given.4 given.3 heard)
 
   by_waits : (waits : Option (List Delivery)) → s.waits ≡ waits
       → (s.waits ≡ None → (reply.Item x ≡ reply.Item (Err router.ClosedChannel))

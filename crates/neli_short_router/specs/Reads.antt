@@ -1,5 +1,5 @@
 -- Reads of a handle, one after another.
-use Rattle.std.specs.Prelude.{◌≡◌, ℕ, Bool, true, false, ◌||◌, List, [], ◌∷◌, Option, Some, None, Result, Err, ◌⊎◌}
+use Rattle.std.specs.Prelude.{◌≡◌, ℕ, true, false, ◌||◌, List, [], ◌∷◌, Option, Some, None, Result, Err, ◌⊎◌}
 use Rattle.std.specs.Option.{option_map}
 use Rattle.neli_wire.specs.declared.errors.DeError.{DeError}
 use Rattle.neli_reader.specs.RouterError.TheVariants as router
@@ -10,7 +10,7 @@ use Rattle.neli_router.specs.declared.handle.HandleState.{HandleState}
 use Rattle.neli_router.specs.declared.router.NlRouter.{NlRouter}
 use Rattle.neli_router.specs.declared.verdict.Heard.{Heard}
 use Rattle.neli_router.specs.Rule.{ends_at, has_number, is_single, item_of}
-use Rattle.neli_router.specs.Verdicts.{heard_after, heard_of}
+use Rattle.neli_router.specs.Verdicts.{heard_of, heard_with}
 
 -- where the reading of a handle stands: its state, what waits for it if it is open, and what is known of the answer
 pub record Stand : Type 0 where
@@ -37,16 +37,17 @@ LeavesRest port_of pending h t r s =
 abbrev pub HasNoItem : Stand → Type 0
 HasNoItem s = (s.handle.ended ≡ true) ⊎ (s.waits ≡ Some [])
 
--- how reading stands after this item, which was read of the first delivery
-abbrev pub stand_after : {K P : Type 0} → (K → ℕ) → HandleState → List Delivery → Option Heard → Item K P → Bool → Stand
-stand_after number_of handle ds heard item last =
-    let single = is_single number_of (has_number handle.number) item in
-    let ends = ends_at number_of handle.needs_ack (has_number handle.number) handle.single_given item in
-    let given = item_of number_of handle.needs_ack (has_number handle.number) handle.single_given item in
+-- how reading stands after the first delivery was read as this item
+abbrev pub stand_after : {K P : Type 0} → (K → ℕ) → HandleState → Delivery → List Delivery → Option Heard → Item K P
+    → Stand
+stand_after number_of handle d ds heard item =
+    let numbered = has_number handle.number in
+    let single = is_single number_of numbered item in
+    let ends = ends_at number_of handle.needs_ack numbered handle.single_given item in
     record {
       handle = record handle { single_given = handle.single_given || single; ended = ends };
       waits = Some ds;
-      heard = option_map (heard_after ends last given) heard;
+      heard = option_map (heard_with number_of handle.needs_ack numbered handle.single_given d item) heard;
     }
 
 module _ {K P V : Type 0} (type_of : ℕ → K) (number_of : K → ℕ) (view : P → V) (size : P → ℕ) (read : List ℕ
@@ -61,7 +62,7 @@ module _ {K P V : Type 0} (type_of : ℕ → K) (number_of : K → ℕ) (view : 
   Gives handle (Some (d ∷ ds)) heard x t =
       (item : Item K P) × IsReading type_of view size read d item
       × (x ≡ item_of number_of handle.needs_ack (has_number handle.number) handle.single_given item)
-      × ((last : Bool) × (t ≡ stand_after number_of handle ds heard item last))
+      × (t ≡ stand_after number_of handle d ds heard item)
 
   -- a read returns this item, and reading stands so then
   abbrev pub IsRead : Stand → Item K P → Stand → Type 0

@@ -2,6 +2,7 @@
 
 ghost use Rattle.std.specs.Prelude.{true, false, ◌≡◌, ◌≢◌, ◌<◌, ◌||◌, ℕ, List, [], ◌∷◌, ◌++◌, None, Some, Ok, Err, IsOk, IfOk};
 ghost use Rattle.std.specs.Prelude.{IfErr, Option, OnOk, OnErr, is_some, option_map, if◌then◌else◌, vec_len, vec_capacity};
+ghost use Rattle.neli_answers.specs.Answers.{answering_by_flags};
 ghost use Rattle.neli_reader.specs.Agreement.{untyped_layout};
 ghost use Rattle.neli_reader.specs.Cuts.{cut_of};
 ghost use Rattle.neli_reader.specs.NlPayload.TheVariants as payload;
@@ -150,7 +151,7 @@ impl<D: Deliveries> Client for NlRouter<D> {
         ensures opened { OnOk result (Opens self.old.next_seq
             (D.pending self.old.deliveries) (D.pending self.new.deliveries)) }
         ensures heard { OnOk result
-            ((heard_of self.new.heard (Some self.old.next_seq) ≡ Some begun)
+            ((heard_of self.new.heard (Some self.old.next_seq) ≡ Some (begun (answering_by_flags nl_flags)))
             × SameListsBut (Some self.old.next_seq)
             (heard_of self.old.heard) (heard_of self.new.heard)) }
         ensures unchanged { OnErr result ((self.new.next_seq ≡ self.old.next_seq)
@@ -242,7 +243,7 @@ impl<D: Deliveries> Client for NlRouter<D> {
             (has_number handle.old.number) handle.old.single_given item))
             × (heard_of self.new.heard handle.old.number
             ≡ option_map (heard_with T.wire_number handle.old.needs_ack
-            (has_number handle.old.number) handle.old.single_given item)
+            (has_number handle.old.number) handle.old.single_given d item)
             (heard_of self.old.heard handle.old.number)) }
         ensures unheard { SameListsBut handle.old.number
             (heard_of self.old.heard) (heard_of self.new.heard) }

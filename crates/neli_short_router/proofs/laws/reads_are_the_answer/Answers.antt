@@ -9,7 +9,7 @@ returns-clause-goes_on g c = λ s t before given ds has waits are.
     g.P.FromBytesWithInput.read s t before given ds has waits are
 
 pub returns-clause-begins : goal.returns-clause-begins
-returns-clause-begins g c = λ s single ended heard. record {
+returns-clause-begins g c = λ s answering single ended heard. record {
   single = single;
   ended = ended
       ∙ nothing_stops g.row.P.Denot g.T.Constant.wire_number (has_number s.handle.number) s.handle.needs_ack;
