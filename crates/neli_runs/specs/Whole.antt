@@ -7,7 +7,7 @@ use Rattle.neli_reader.specs.Retyping.{IsTyped}
 use Rattle.neli_deliveries.specs.declared.delivery.Delivery.{Delivery}
 use Rattle.neli_deliveries.specs.declared.delivery.Delivery.TheVariants as delivery
 use Rattle.neli_deliveries.specs.Readings.{Item}
-use Rattle.neli_router.specs.Rule.{last_place}
+use Rattle.neli_router.specs.Rule.{is_answer, last_place}
 use Rattle.neli_router.specs.Verdicts.{end_code, given_of, is_flagged}
 
 -- the answers to a handle with these deliveries, the first of which are read as these items, have ended; the reads
@@ -24,3 +24,17 @@ pub record IsWholeAnswer {K P V : Type 0} (type_of : ℕ → K) (number_of : K �
   pub unmarked : list_any (is_flagged 16) (given_of number_of needs numbered items) ≡ false
   pub code : (m : Nlmsghdr K P) → slice_get items (last_place number_of needs numbered items) ≡ Some (Ok m)
       → end_code m.payload ≡ pos 0
+
+-- ---- an answer by a dump
+
+-- each message of type 2 (NLMSG_ERROR) is an acknowledgement or an error, as every one is that a read returns
+abbrev pub AreAnswers : {K P : Type 0} → (K → ℕ) → List (Item K P) → Type 0
+AreAnswers {K} {P} number_of items =
+    (i : ℕ) (m : Nlmsghdr K P) → slice_get items i ≡ Some (Ok m) → number_of m.header.message_type ≡ 2
+    → is_answer m.payload ≡ true
+
+-- the item at which the answers end is the end of a dump (type 3, NLMSG_DONE), with code 0
+abbrev pub EndsDump : {K P : Type 0} → (K → ℕ) → List (Item K P) → Type 0
+EndsDump {K} {P} number_of items =
+    (m : Nlmsghdr K P) × (slice_get items (last_place number_of false true items) ≡ Some (Ok m))
+    × (number_of m.header.message_type ≡ 3) × (end_code m.payload ≡ pos 0)

@@ -13,7 +13,8 @@ ghost use Rattle.neli_deliveries.specs.Readings.{Item};
 ghost use Rattle.neli_router.specs.declared.reply.Reply.{Reply as Answer};
 ghost use Rattle.neli_router.specs.declared.reply.Reply.TheVariants as reply;
 ghost use Rattle.neli_router.specs.Rule.{answer, ends_at, item_of, last_place, single_place};
-ghost use Rattle.neli_router.specs.Verdicts.{given_of, is_filtered, verdict, verdict_with};
+ghost use Rattle.neli_router.specs.Verdicts.{given_of, is_filtered, verdict, verdict_of_items, verdict_with};
+ghost use Rattle.neli_answers.specs.declared.answering.Answering.TheVariants as answered;
 ghost use Rattle.neli_router.specs.declared.verdict.Verdict.TheVariants as stands;
 ghost use Rattle.neli_router.specs.Sends.{frame_or_refusal, request};
 ghost use Rattle.neli_runs.specs.Deliveries.{deliveries};
@@ -23,7 +24,7 @@ ghost use Rattle.neli_runs.specs.OtherReads.{NoneReads};
 ghost use Rattle.neli_runs.specs.Outcomes.{AreReadings, EachAfter, IsAnswered, IsNextAnswer, IsSent, items_in};
 ghost use Rattle.neli_runs.specs.Outcomes.{outcome_of};
 ghost use Rattle.neli_runs.specs.Regrouping.{Bytes, IsRegrouped, IsWhole, history_with};
-ghost use Rattle.neli_runs.specs.Whole.{IsWholeAnswer};
+ghost use Rattle.neli_runs.specs.Whole.{AreAnswers, EndsDump, IsWholeAnswer};
 
 use crate::{Command, Outcome};
 use neli_consts::NlType;
@@ -252,4 +253,12 @@ where
         → AreReadings RT.wire_value RP.view RP.wire_length RP.read ds items
         → verdict RT.wire_number needs numbered items ≡ stands.Complete
         → IsWholeAnswer RT.wire_value RT.wire_number RP.view RP.wire_length RP.read needs numbered ds items }
+{}
+
+/// Of a request that is answered by a dump the verdict is `Complete` only at its end: the last item is of type 3
+/// (`NLMSG_DONE`), with code 0, whether the messages of the dump have `NLM_F_MULTI` or not.
+pub fn complete_dumps_have_ended<RT: NlType, RP>()
+    ensures { (items : List (Item RT RP)) → AreAnswers RT.wire_number items
+        → verdict_of_items RT.wire_number answered.Dump false items ≡ stands.Complete
+        → EndsDump RT.wire_number items }
 {}

@@ -17,8 +17,8 @@ mod whole_run;
 
 pub use command::{Command, Outcome};
 pub use neli_router::{
-    Deliveries, Delivery, GivenUp, HandleState, Heard, Loss, Missed, NlRouter,
-    NlRouterReceiverHandle, Notice, Reply, Verdict, filtered_of, verdict_of,
+    Answering, Deliveries, Delivery, GivenUp, HandleState, Heading, Heard, Loss, Missed, NlRouter,
+    NlRouterReceiverHandle, Notice, Reply, Verdict, filtered_of, is_dump, verdict_of,
 };
 pub use open_run::OpenRun;
 pub use whole_run::run;
