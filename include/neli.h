@@ -67,7 +67,8 @@ enum neli_code {
     NELI_PLACE = -14,         /* a place is past the bytes, or past the end of its walk */
     NELI_KIND = -15,          /* the message is of another type, or of one whose attributes no table has */
     NELI_TEXT = -16,          /* no zero byte ends the text */
-    NELI_TABLE = -17          /* a line of a table is bad */
+    NELI_TABLE = -17,         /* a line of a table is bad */
+    NELI_UNENDED = -18        /* of a verdict: the reads ended before the answer, as those of a dump without MULTI */
 };
 
 /* The maximum size of a code's text in bytes, including its zero byte. */
@@ -284,6 +285,9 @@ int32_t neli_c_router_free(struct neli_router *router);
 int32_t neli_c_router_set_number(struct neli_router *router, uint32_t number);
 int32_t neli_c_router_send(struct neli_router *router, uint16_t type, uint16_t flags, const uint8_t *body,
                            size_t body_length, uint8_t *out, size_t room, struct neli_sent *sent);
+int32_t neli_c_router_send_expecting(struct neli_router *router, uint32_t answering, uint16_t type, uint16_t flags,
+                                     const uint8_t *body, size_t body_length, uint8_t *out, size_t room,
+                                     struct neli_sent *sent);
 int32_t neli_c_router_datagram(struct neli_router *router, const uint8_t *bytes, size_t length,
                                const uint32_t *groups, size_t group_count);
 int32_t neli_c_router_fault(struct neli_router *router, int32_t error_number);
@@ -579,6 +583,17 @@ static inline int32_t neli_router_send(struct neli_router *router, uint16_t type
                               neli_write_at(out), room, sent);
 }
 
+/* The same of a request that is answered so, a number of enum neli_answering, whatever its flags are: by it the handle's
+ * items end, and its verdict. A number that is none of these is taken for NELI_ANSWERING_ACKNOWLEDGEMENT. */
+static inline int32_t neli_router_send_expecting(struct neli_router *router, uint32_t answering, uint16_t type,
+                                                 uint16_t flags, const void *body, size_t body_length, uint8_t *out,
+                                                 size_t room, struct neli_sent *sent) {
+    if (router == NULL || !neli_is_slice(body, body_length) || !neli_is_slice(out, room) || sent == NULL)
+        return NELI_NULL;
+    return neli_c_router_send_expecting(router, answering, type, flags, neli_read_at((const uint8_t *)body), body_length,
+                                        neli_write_at(out), room, sent);
+}
+
 /* Takes in a datagram that arrived for these groups; none, or 0, if it arrived only for the router's port. It is
  * copied. */
 static inline int32_t neli_router_datagram(struct neli_router *router, const uint8_t *bytes, size_t length,
@@ -680,6 +695,7 @@ static inline int32_t neli_router_pass_items(struct neli_router *router, size_t 
  *   NELI_INTERRUPTED    a message of it, its end included, is marked with NLM_F_DUMP_INTR: the listed objects changed
  *                       meanwhile, so entries may be missing or repeated; returned as soon as that message is read
  *   NELI_KERNEL_ERROR   the kernel answered with an error, or ended a dump with one: the code is in `verdict`
+ *   NELI_UNENDED        it has ended, but the kernel goes on: the messages of a dump lack NLM_F_MULTI
  *   NELI_LINK, NELI_BYTES, NELI_STRAY, NELI_NO_ACK, NELI_UNEXPECTED_ACK   any other end
  *   NELI_HANDLE         the handle is not open, and then `verdict` is unchanged; or its number is not
  * All but NELI_WAITS are final. That of NELI_MULTICAST is NELI_WAITS. The router is unchanged. */

@@ -19,7 +19,8 @@ enum status status_of(int32_t code) {
     case NELI_LENGTH:
     case NELI_STRAY:
     case NELI_NO_ACK:
-    case NELI_UNEXPECTED_ACK: return STATUS_LOST;
+    case NELI_UNEXPECTED_ACK:
+    case NELI_UNENDED: return STATUS_LOST;
     default: return STATUS_NOT_BEGUN;
     }
 }

@@ -10,8 +10,8 @@ pub mod synchronous {
     };
     pub use neli_router::{ItemsAhead, LentError, LentReply, laws as laws_of_handles};
     pub use neli_runs::{
-        Command, Deliveries, Delivery, GivenUp, HandleState, Heard, Loss, Missed, NlRouter,
-        NlRouterReceiverHandle, Notice, OpenRun, Outcome, Reply, Verdict, filtered_of, laws, run,
-        verdict_of,
+        Answering, Command, Deliveries, Delivery, GivenUp, HandleState, Heading, Heard, Loss,
+        Missed, NlRouter, NlRouterReceiverHandle, Notice, OpenRun, Outcome, Reply, Verdict,
+        filtered_of, is_dump, laws, run, verdict_of,
     };
 }

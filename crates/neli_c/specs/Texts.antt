@@ -28,6 +28,7 @@ IsTextOf code t =
     × (code ≡ negsuc 14 → t ≡ codes "the message is of another kind")
     × (code ≡ negsuc 15 → t ≡ codes "no zero byte ends the text")
     × (code ≡ negsuc 16 → t ≡ codes "a line of a table is bad")
+    × (code ≡ negsuc 17 → t ≡ codes "the reads ended before the answer did")
     -- a number that is no code
     × ((n : ℕ) → code ≡ pos (7 + n) → t ≡ codes "not a code of this library")
-    × ((n : ℕ) → code ≡ negsuc (17 + n) → t ≡ codes "not a code of this library")
+    × ((n : ℕ) → code ≡ negsuc (18 + n) → t ≡ codes "not a code of this library")

@@ -36,6 +36,7 @@ fn text_of(code: i32) -> &'static str
         -15 => "the message is of another kind",
         -16 => "no zero byte ends the text",
         -17 => "a line of a table is bad",
+        -18 => "the reads ended before the answer did",
         _ => "not a code of this library",
     }
 }

@@ -1,6 +1,6 @@
 -- The verdict on an answer after a read of a session, by that of its router.
 use Rattle.std.proofs.Common.{◌≡◌, ◌≢◌, ◌⊎◌, ℕ, false, List, ◌∷◌, length, Option, Some, None, Result}
-use Rattle.std.proofs.Common.{Ok, Err, IfOk, OnErr, subst, ◌∙◌, inl, inr, option_map, refl, Bool, ◌||◌}
+use Rattle.std.proofs.Common.{Ok, Err, IfOk, OnErr, subst, ◌∙◌, inl, inr, option_map, refl}
 use Rattle.std.proofs.Common.{ℤ, slice_set}
 use Rattle.neli_deliveries.specs.declared.delivery.Delivery.{Delivery}
 use Rattle.neli_deliveries.specs.Readings.{IsReading, Item}
@@ -8,9 +8,10 @@ use Rattle.neli_router.specs.declared.handle.HandleState.{HandleState}
 use Rattle.neli_router.specs.declared.reply.Reply.{Reply}
 use Rattle.neli_router.specs.declared.reply.Reply.TheVariants as reply
 use Rattle.neli_router.specs.Rule.{has_number, item_of}
-use Rattle.neli_router.specs.Verdicts.{has_finished, heard_of, heard_with, verdict_by}
+use Rattle.neli_router.specs.Verdicts.{heard_of, heard_with, known_of, settled, verdict_by}
 use Rattle.neli_c_parts.specs.declared.session.Session.{Session}
-use Rattle.neli_router.specs.GivenUp.{Finishes, IsLeft}
+use Rattle.neli_router.specs.GivenUp.{IsLeft, has_finished}
+use Rattle.neli_router.specs.declared.verdict.Heard.{Heard as Known}
 use Rattle.neli_c_parts.specs.declared.session.NeliVerdict.{NeliVerdict}
 use Rattle.neli_c_parts.specs.declared.session.Slot.TheVariants as slot
 use Rattle.neli_c_parts.specs.Codes.{memory, ok}
@@ -27,14 +28,14 @@ module _ {E : Type 0} (h after : HandleState) (s t : Session) where
       IfOk r (λ answer. (given : Item ℕ (List ℕ)) × IsReading (λ n. n) (λ b. b) length (λ b. Ok b) d given
       × (answer ≡ reply.Item (item_of (λ n. n) h.needs_ack (has_number h.number) h.single_given given))
       × (heard_of t.router.heard h.number
-      ≡ option_map (heard_with (λ n. n) h.needs_ack (has_number h.number) h.single_given given)
+      ≡ option_map (heard_with (λ n. n) h.needs_ack (has_number h.number) h.single_given d given)
       (heard_of s.router.heard h.number)))
 
   first : (r : Result (Reply ℕ (List ℕ)) E) (d : Delivery) → Heard r d
       → OnErr r ((after ≡ h) × (t.router ≡ s.router))
       → (t.router ≡ s.router) ⊎ ((given : Item ℕ (List ℕ)) × IsReading (λ n. n) (λ b. b) length (λ b. Ok b) d given
       × (heard_of t.router.heard h.number
-      ≡ option_map (heard_with (λ n. n) h.needs_ack (has_number h.number) h.single_given given)
+      ≡ option_map (heard_with (λ n. n) h.needs_ack (has_number h.number) h.single_given d given)
       (heard_of s.router.heard h.number)))
   first (Ok answer) d heard err = inr (heard.0, heard.1, heard.3)
   first (Err e) d heard err = inl err.1
@@ -66,13 +67,18 @@ tells code error filtered k s x out is c e f = (
     there : Some x ≡ handle_at k s.handles.items → handle_at k s.handles.items ≡ None → ⊥
     there is none = cc
 
+-- whether the kernel filtered does not depend on the verdict
+pub filtered-settled : (heard : Option Known) → filtered_byte (option_map settled heard) ≡ filtered_byte heard
+filtered-settled None = refl
+filtered-settled (Some known) = refl
+
 -- giving a handle up, if memory does not run out
 pub given-up : (k : ℕ) (s t : Session) (x : HandleState) → Some x ≡ handle_at k s.handles.items
     → (x.number ≡ None → pending t None ≡ None)
     → (pending s x.number ≡ None → pending t x.number ≡ None)
     → ((q : ℕ) (ds : List Delivery) → x.number ≡ Some q → pending s (Some q) ≡ Some ds
-    → (last : Bool) × Finishes x.needs_ack ds last
-    × IsLeft q x.needs_ack (has_finished (heard_of s.router.heard (Some q)) || last) s.router.given_up.items
+    → IsLeft q (known_of x.needs_ack (heard_of s.router.heard (Some q))).answering
+    (has_finished (known_of x.needs_ack (heard_of s.router.heard (Some q))) ds) s.router.given_up.items
     (pending t) t.router.given_up.items)
     → ((w : Option ℕ) → w ≢ x.number → pending t w ≡ pending s w)
     → ((w : Option ℕ) → w ≢ x.number → heard_of t.router.heard w ≡ heard_of s.router.heard w)

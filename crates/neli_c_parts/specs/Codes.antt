@@ -78,3 +78,7 @@ text = negsuc 15
 
 abbrev pub bad_table : ℤ
 bad_table = negsuc 16
+
+-- the reads of an answer ended before it did
+abbrev pub unended : ℤ
+unended = negsuc 17

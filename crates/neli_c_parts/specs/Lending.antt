@@ -90,7 +90,7 @@ PassesHandle h h' s t =
     }))
     × (h.ended ≡ false → (d : Delivery) (ds : List Delivery) → pending s h.number ≡ Some (d ∷ ds)
     → heard_of t.router.heard h.number
-    ≡ option_map (heard_with (λ n. n) h.needs_ack (has_number h.number) h.single_given (untyped d))
+    ≡ option_map (heard_with (λ n. n) h.needs_ack (has_number h.number) h.single_given d (untyped d))
     (heard_of s.router.heard h.number))
     × ((w : Option ℕ) → w ≢ h.number → pending t w ≡ pending s w)
     × ((w : Option ℕ) → w ≢ h.number → heard_of t.router.heard w ≡ heard_of s.router.heard w)

@@ -25,7 +25,10 @@ use Rattle.neli_router.specs.declared.reply.Reply.TheVariants as reply
 use Rattle.neli_lent.specs.Messages.{Lent, messages_in}
 use Rattle.neli_router.specs.GivenUp.{has_end, is_given_up, still_open, ungrouped}
 use Rattle.neli_router.specs.Rule.{ends_at, has_number, is_single, item_of}
-use Rattle.neli_router.specs.Sends.{asks, frame_or_refusal, number_after}
+use Rattle.neli_router.specs.Sends.{expects, frame_or_refusal, number_after}
+use Rattle.neli_router.specs.Verdicts.{begun, heard_of}
+use Rattle.neli_answers.specs.Answers.{answering_by_flags}
+use Rattle.neli_answers.specs.declared.answering.Answering.{Answering}
 use Rattle.neli_deliveries.specs.Readings.{IsReading, Item}
 use Rattle.neli_reader.specs.Headers.{flags_of}
 use Rattle.neli_reader.specs.NlPayload.{NlPayload}
@@ -145,21 +148,29 @@ ClosesHandle code k s t =
     × (t.router.deliveries.port ≡ s.router.deliveries.port) × (t.router.next_seq ≡ s.router.next_seq)
     × (t.held ≡ s.held))
 
--- the request of this body is written, the place has its handle, and its number is used up
-abbrev pub SendsRequest : ℕ → ℕ → List ℕ → Session → Session → List ℕ → List ℕ → NeliSent → Type 0
-SendsRequest message_type flags body s t old new sent =
+-- the request of this body, which is answered so, is written; the place has its handle; nothing is known of its answer
+-- yet; and its number is used up
+abbrev pub SendsExpecting : Answering → ℕ → ℕ → List ℕ → Session → Session → List ℕ → List ℕ → NeliSent → Type 0
+SendsExpecting answering message_type flags body s t old new sent =
     let number = s.router.next_seq in
     (bytes : List ℕ)
     × (frame_or_refusal {T = ℕ} {P = List ℕ} (λ n. n) (λ b. Ok b) length s.router.deliveries.port number
     (is_open s number) message_type (flags_of flags) (payload.Payload body) ≡ Ok bytes)
     × (new ≡ put_first bytes old) × (sent.length ≡ length bytes)
     × (handle_at sent.handle s.handles.items ≡ None)
-    × (t.handles.items ≡ put_at sent.handle (asks number (flags_of flags)) s.handles.items)
-    × (handle_at sent.handle t.handles.items ≡ Some (asks number (flags_of flags)))
+    × (t.handles.items ≡ put_at sent.handle (expects number answering) s.handles.items)
+    × (handle_at sent.handle t.handles.items ≡ Some (expects number answering))
     × ((ks : List ℕ) → HasFree s ks → (sent.handle ≡ next_place s.handles.items ks) × HasFree t (later_places ks))
     × (t.router.next_seq ≡ number_after number) × (pending t (Some number) ≡ Some [])
     × ((w : Option ℕ) → w ≢ Some number → pending t w ≡ pending s w)
     × (t.router.deliveries.port ≡ s.router.deliveries.port) × (t.held ≡ s.held)
+    × (heard_of t.router.heard (Some number) ≡ Some (begun answering))
+    × ((w : Option ℕ) → w ≢ Some number → heard_of t.router.heard w ≡ heard_of s.router.heard w)
+
+-- the same of a request that is answered as its flags say
+abbrev pub SendsRequest : ℕ → ℕ → List ℕ → Session → Session → List ℕ → List ℕ → NeliSent → Type 0
+SendsRequest message_type flags body s t old new sent =
+    SendsExpecting (answering_by_flags (flags_of flags)) message_type flags body s t old new sent
 
 -- nothing is sent: port, next number, waiting deliveries, the handles and the held message are unchanged
 abbrev pub SendsNothing : Session → Session → Type 0

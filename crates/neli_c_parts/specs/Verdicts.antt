@@ -1,5 +1,5 @@
 -- Verdicts on answers, in C's terms, and the effect of giving up.
-use Rattle.std.specs.Prelude.{◌≡◌, ◌≢◌, ◌⊎◌, ◌||◌, ℕ, ℤ, pos, Bool, List, if◌then◌else◌, ◌∷◌, Option}
+use Rattle.std.specs.Prelude.{◌≡◌, ◌≢◌, ◌⊎◌, ℕ, ℤ, pos, List, if◌then◌else◌, ◌∷◌, Option}
 use Rattle.std.specs.Prelude.{Some, None, IfSome}
 use Rattle.std.specs.Prelude.{false, length, option_map, slice_set, Ok}
 use Rattle.neli_deliveries.specs.declared.delivery.Delivery.{Delivery}
@@ -9,15 +9,15 @@ use Rattle.neli_router.specs.declared.verdict.Heard.{Heard}
 use Rattle.neli_router.specs.declared.verdict.Loss.TheVariants as loss
 use Rattle.neli_router.specs.declared.verdict.Verdict.{Verdict}
 use Rattle.neli_router.specs.declared.verdict.Verdict.TheVariants as verdict
-use Rattle.neli_router.specs.GivenUp.{Finishes, IsLeft, still_open}
+use Rattle.neli_router.specs.GivenUp.{IsLeft, has_finished, still_open}
 use Rattle.neli_router.specs.Rule.{has_number}
-use Rattle.neli_router.specs.Verdicts.{has_finished, heard_of, heard_with, verdict_by}
+use Rattle.neli_router.specs.Verdicts.{heard_of, heard_with, known_of, verdict_by}
 use Rattle.neli_c_parts.specs.declared.session.NeliVerdict.{NeliVerdict}
 use Rattle.neli_c_parts.specs.declared.session.Session.{Session}
 use Rattle.neli_c_parts.specs.declared.session.Slot.TheVariants as slot
 use Rattle.neli_c_parts.specs.Codes.{bad_bytes, interrupted, kernel_error, link, memory, no_ack, no_handle, ok}
 use Rattle.neli_c_parts.specs.Codes.{stray}
-use Rattle.neli_c_parts.specs.Codes.{unexpected_ack, waits}
+use Rattle.neli_c_parts.specs.Codes.{unended, unexpected_ack, waits}
 use Rattle.neli_c_parts.specs.Sessions.{HasFree, pending}
 use Rattle.neli_c_parts.specs.Slots.{handle_at}
 
@@ -35,6 +35,7 @@ verdict_code (verdict.Lost loss.Stray) = stray
 verdict_code (verdict.Lost loss.Unreadable) = bad_bytes
 verdict_code (verdict.Lost loss.NoAck) = no_ack
 verdict_code (verdict.Lost loss.UnexpectedAck) = unexpected_ack
+verdict_code (verdict.Lost loss.Unended) = unended
 verdict_code (verdict.Lost loss.Closed) = no_handle
 
 -- the kernel's code if it failed, and 0 elsewhere
@@ -65,7 +66,7 @@ HearsHandle h s t =
     (h.ended ≡ false → (d : Delivery) (ds : List Delivery) → pending s h.number ≡ Some (d ∷ ds)
     → (t.router ≡ s.router) ⊎ ((given : Item ℕ (List ℕ)) × IsReading (λ n. n) (λ b. b) length (λ b. Ok b) d given
     × (heard_of t.router.heard h.number
-    ≡ option_map (heard_with (λ n. n) h.needs_ack (has_number h.number) h.single_given given)
+    ≡ option_map (heard_with (λ n. n) h.needs_ack (has_number h.number) h.single_given d given)
     (heard_of s.router.heard h.number))))
     × ((w : Option ℕ) → w ≢ h.number → heard_of t.router.heard w ≡ heard_of s.router.heard w)
     × (t.router.given_up ≡ s.router.given_up)
@@ -79,8 +80,8 @@ LeavesRequest code h s t =
     × (code ≡ memory → (pending t h.number ≡ None)
     × (t.router.given_up.items ≡ still_open (pending t) s.router.given_up.items))
     × (code ≡ ok → (q : ℕ) (ds : List Delivery) → h.number ≡ Some q → pending s (Some q) ≡ Some ds
-    → (last : Bool) × Finishes h.needs_ack ds last
-    × IsLeft q h.needs_ack (has_finished (heard_of s.router.heard (Some q)) || last) s.router.given_up.items (pending t)
+    → IsLeft q (known_of h.needs_ack (heard_of s.router.heard (Some q))).answering
+    (has_finished (known_of h.needs_ack (heard_of s.router.heard (Some q))) ds) s.router.given_up.items (pending t)
     t.router.given_up.items)
     × (h.number ≡ None → (code ≡ ok) × (pending t None ≡ None))
     × (pending s h.number ≡ None → (code ≡ ok) × (pending t h.number ≡ None))

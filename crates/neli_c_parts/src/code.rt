@@ -49,3 +49,5 @@ pub const KIND: i32 = -15;
 pub const TEXT: i32 = -16;
 /// A line of a table is bad.
 pub const TABLE: i32 = -17;
+/// The reads of an answer ended before it did.
+pub const UNENDED: i32 = -18;

@@ -7,7 +7,7 @@ ghost use Rattle.neli_c_parts.specs.Verdicts.{filtered_byte, verdict_code, verdi
 
 use crate::code::{
     BYTES, HANDLE, IN_USE, INTERRUPTED, KERNEL_ERROR, LENGTH, LINK, MEMORY, NO_ACK, OK, STRAY,
-    UNEXPECTED_ACK, WAITS,
+    UNENDED, UNEXPECTED_ACK, WAITS,
 };
 use crate::message::code_of;
 use neli_reader::{RouterError, SocketError};
@@ -81,6 +81,7 @@ pub fn of_verdict(verdict: Verdict) -> i32
         Verdict::Lost(Loss::Unreadable) => BYTES,
         Verdict::Lost(Loss::NoAck) => NO_ACK,
         Verdict::Lost(Loss::UnexpectedAck) => UNEXPECTED_ACK,
+        Verdict::Lost(Loss::Unended) => UNENDED,
         Verdict::Lost(Loss::Closed) => HANDLE,
     }
 }

@@ -8,7 +8,7 @@ ghost use Rattle.neli_router.specs.declared.handle.HandleState.{HandleState};
 ghost use Rattle.neli_c_parts.specs.Codes.{no_handle, ok};
 ghost use Rattle.neli_c_parts.specs.Sessions.{ClosesHandle, HasFree, Holds, IsNew, ReadsHandle, RefusesRequest};
 ghost use Rattle.neli_c_parts.specs.Sessions.{SaysNeeded};
-ghost use Rattle.neli_c_parts.specs.Sessions.{SendsNothing, SendsRequest, SetsNumber, TakesDatagram};
+ghost use Rattle.neli_c_parts.specs.Sessions.{SendsExpecting, SendsNothing, SendsRequest, SetsNumber, TakesDatagram};
 ghost use Rattle.neli_c_parts.specs.Sessions.{TakesFault, TakesKind, WritesItem};
 ghost use Rattle.neli_c_parts.specs.Sessions.{error_flags, error_message, item_code, item_message};
 ghost use Rattle.neli_c_parts.specs.Sessions.{shown_fields, reply_code, shown_of};
@@ -24,6 +24,7 @@ ghost use Rattle.neli_c_parts.specs.declared.session.Slot.TheVariants as slot;
 use crate::bytes::copy;
 use crate::code::{HANDLE, ITEM, KERNEL_ERROR, LENGTH, LINK, MEMORY, OK, OVERRUN, ROOM, WAITS};
 use crate::outcome::{filtered_byte, is_overrun, kind_of, of_error, of_verdict, verdict_error};
+use neli_answers::Answering;
 use neli_attr::Buffer;
 use neli_consts::NlmF;
 use neli_log::Log;
@@ -341,7 +342,7 @@ impl Session {
         self.router.set_next_seq(number);
     }
 
-    /// Writes a request as bytes to send.
+    /// Writes a request as bytes to send; its flags say how it is answered.
     pub fn send(
         &mut self,
         alloc: Global,
@@ -353,6 +354,30 @@ impl Session {
     ) -> i32
         ensures sent { result ≡ ok
             → SendsRequest nl_type flags body.now self.old self.new out.old out.new sent.new }
+        ensures unwritten { result ≢ ok → out.new ≡ out.old }
+        ensures refused { result ≢ ok → SendsNothing self.old self.new }
+        ensures why { result ≢ ok → RefusesRequest result body.now self.old out.old }
+        ensures needed { result ≢ ok → SaysNeeded result body.now sent.old sent.new }
+        ensures missed { MissesSame self.old self.new }
+    {
+        let answering = Answering::by_flags(NlmF::from_wire(flags));
+        self.send_expecting(alloc, answering, nl_type, flags, body, out, sent)
+    }
+
+    /// Writes a request, which is answered so, as bytes to send.
+    pub fn send_expecting(
+        &mut self,
+        alloc: Global,
+        answering: Answering,
+        nl_type: u16,
+        flags: u16,
+        body: &[u8],
+        out: &mut [u8],
+        sent: &mut NeliSent,
+    ) -> i32
+        ensures sent { result ≡ ok
+            → SendsExpecting answering nl_type flags body.now self.old self.new
+            out.old out.new sent.new }
         ensures unwritten { result ≢ ok → out.new ≡ out.old }
         ensures refused { result ≢ ok → SendsNothing self.old self.new }
         ensures why { result ≢ ok → RefusesRequest result body.now self.old out.old }
@@ -377,7 +402,7 @@ impl Session {
         let payload = NlPayload::Payload(buffer);
         match self
             .router
-            .send::<u16, Buffer, u16, Buffer>(alloc, nl_type, flags, payload)
+            .send_expecting::<u16, Buffer, u16, Buffer>(alloc, answering, nl_type, flags, payload)
         {
             Ok((bytes, handle)) => {
                 sent.handle = put(&mut self.handles, &mut self.freed, handle);

@@ -31,6 +31,7 @@ pub const LINK: i32 = -11;
 pub const BYTES: i32 = -12;
 pub const KIND: i32 = -15;
 pub const TABLE: i32 = -17;
+pub const UNENDED: i32 = -18;
 
 /// `NELI_ANSWERING_DUMP` of `enum neli_answering`.
 pub const ANSWERING_DUMP: u32 = 0;
@@ -174,8 +175,9 @@ unsafe extern "C" {
     fn neli_c_router_new(router: *mut RawRouter, port: u32) -> i32;
     fn neli_c_router_free(router: *mut RawRouter) -> i32;
     fn neli_c_router_set_number(router: *mut RawRouter, number: u32) -> i32;
-    fn neli_c_router_send(
+    fn neli_c_router_send_expecting(
         router: *mut RawRouter,
+        answering: u32,
         kind: u16,
         flags: u16,
         body: *const u8,
@@ -303,12 +305,31 @@ impl Router {
         unsafe { neli_c_router_set_number(self.raw(), number) }
     }
 
-    /// A request with this body, written into `out`.
-    pub fn send(&mut self, kind: u16, flags: u16, body: &[u8], out: &mut [u8], sent: &mut Sent) -> i32 {
+    /// A request with this body that is answered so, a number of `enum neli_answering`, written into `out`.
+    pub fn send_expecting(
+        &mut self,
+        answering: u32,
+        kind: u16,
+        flags: u16,
+        body: &[u8],
+        out: &mut [u8],
+        sent: &mut Sent,
+    ) -> i32 {
+        let (body, length, room) = (body.as_ptr(), body.len(), out.len());
         // SAFETY: the router is open, and borrowed exclusively; each pointer and its length are those of one slice, and
         // that of `out` is exclusive, so they are apart.
         unsafe {
-            neli_c_router_send(self.raw(), kind, flags, body.as_ptr(), body.len(), out.as_mut_ptr(), out.len(), sent)
+            neli_c_router_send_expecting(
+                self.raw(),
+                answering,
+                kind,
+                flags,
+                body,
+                length,
+                out.as_mut_ptr(),
+                room,
+                sent,
+            )
         }
     }
 

@@ -9,7 +9,7 @@ const HEADER: &str = include_str!(env!("NELI_FILE_NELI_H"));
 const DECLARED: &str = concat!(include_str!("ffi.rs"), include_str!("ffi/kernel.rs"), include_str!("ffi/tables.rs"));
 
 /// The codes that this crate names.
-const CODES: [(&str, i32); 20] = [
+const CODES: [(&str, i32); 21] = [
     ("NELI_ITEM", super::ITEM),
     ("NELI_END", super::END),
     ("NELI_WAITS", super::WAITS),
@@ -30,6 +30,7 @@ const CODES: [(&str, i32); 20] = [
     ("NELI_BYTES", super::BYTES),
     ("NELI_KIND", super::KIND),
     ("NELI_TABLE", super::TABLE),
+    ("NELI_UNENDED", super::UNENDED),
 ];
 
 /// A type of the header, as this crate writes it.

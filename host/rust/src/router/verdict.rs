@@ -38,6 +38,8 @@ pub enum Loss {
     NoAck,
     /// An acknowledgement arrived that was not requested.
     UnexpectedAck,
+    /// The reads ended before the kernel's answer did: a message of a dump came without `NLM_F_MULTI`.
+    Unended,
     /// The handle is not open.
     Closed,
 }
@@ -54,6 +56,7 @@ impl Verdict {
             ffi::STRAY => Verdict::Lost(Loss::Stray),
             ffi::NO_ACK => Verdict::Lost(Loss::NoAck),
             ffi::UNEXPECTED_ACK => Verdict::Lost(Loss::UnexpectedAck),
+            ffi::UNENDED => Verdict::Lost(Loss::Unended),
             ffi::HANDLE => Verdict::Lost(Loss::Closed),
             _ => Verdict::Lost(Loss::Datagram),
         }

@@ -6,15 +6,17 @@ use super::entries::ONE;
 use super::script::bytes_of;
 use super::support::assert_is_at;
 use neli::consts::nl::NlmF;
+use neli::consts::socket::NlFamily;
 use neli::err::{RouterError, SocketError};
 use neli::genl::Genlmsghdr;
 use neli::nl::{NlPayload, Nlmsghdr};
 use neli::router::synchronous::laws::{
-    complete_answers_are_whole, given_items_stand_alike, verdicts_follow_reads, verdicts_stay,
+    complete_answers_are_whole, complete_dumps_have_ended, given_items_stand_alike,
+    verdicts_follow_reads, verdicts_stay,
 };
 use neli::router::synchronous::{
-    Deliveries, Log, Loss, Missed, NlRouter, NlRouterReceiverHandle, Notice, Queues, Reply,
-    Verdict, filtered_of, verdict_of,
+    Answering, Deliveries, Log, Loss, Missed, NlRouter, NlRouterReceiverHandle, Notice, Queues,
+    Reply, Verdict, filtered_of, verdict_of,
 };
 use neli::types::Buffer;
 use neli::utils::Groups;
@@ -50,6 +52,9 @@ const ACK: &str = "2400000002000001000000000700000000000000140000001000050000000
 
 const ACK_OF_1: &str = "240000000200000101000000070000000000000014000000100005000100000007000000";
 
+/// The same end without MULTI.
+const PLAIN_END: &str = "1400000003000000000000000700000000000000";
+
 /// A message without MULTI.
 pub const SINGLE: &str = "10000000100000000000000007000000";
 
@@ -59,11 +64,26 @@ pub const DUMP: u16 = 0x300;
 pub const WITH_ACK: u16 = 4;
 
 /// A request's flags, the datagrams that come, and how its answer stands when they are read; whether it was filtered.
-pub const ROWS: [(&str, u16, &[&str], Verdict, bool); 15] = [
+pub const ROWS: [(&str, u16, &[&str], Verdict, bool); 18] = [
     ("nothing came", DUMP, &[], Verdict::Pending, false),
     ("no end", DUMP, &[PART, PART], Verdict::Pending, false),
     ("a dump", DUMP, &[PART, PART, END], Verdict::Complete, false),
     ("filtered", DUMP, &[FILTERED, END], Verdict::Complete, true),
+    (
+        "an end without MULTI",
+        DUMP,
+        &[PART, PLAIN_END],
+        Verdict::Complete,
+        false,
+    ),
+    (
+        "a dump without MULTI",
+        DUMP,
+        &[SINGLE, END],
+        Verdict::Lost(Loss::Unended),
+        false,
+    ),
+    ("one reply", 0, &[SINGLE], Verdict::Complete, false),
     (
         "the first is marked",
         DUMP,
@@ -272,6 +292,93 @@ fn nothing_is_kept_of_what_was_given_up(rt: HostRuntime) {
     assert_is_at(&rt, "a stray", router.deliveries().kept_bytes(), 0);
 }
 
+/// A part of a dump whose body has two bytes, and its padding.
+const SHORT_PART: &str = "12000000100002000000000007000000aabb0000";
+
+/// A request's flags, a message that can't be read as a generic one, and whether its answer goes on after it.
+const UNREAD: [(&str, u16, &str, bool); 2] = [
+    ("an error", WITH_ACK, REFUSED, false),
+    ("a part of a dump", DUMP, SHORT_PART, true),
+];
+
+/// A message that can't be read is the last of its answer by its header, as any other is.
+fn gives_up_unread<D: Deliveries>(rt: &impl Abort, alloc: Global) {
+    for (row, flags, text, goes_on) in &UNREAD {
+        let (mut router, _multicast) = NlRouter::<D>::new(alloc, 7);
+        let mut handle = request(rt, alloc, &mut router, *flags);
+        come(rt, alloc, &mut router, text);
+        let reply = router.next_typed::<u16, Genlmsghdr<u8, u16>, _, _>(alloc, &mut handle);
+        let is_refused = matches!(reply.expect(rt, "memory"), Reply::Item(Err(_)));
+        assert_is_at(rt, *row, is_refused, true);
+        let unread = Verdict::Lost(Loss::Unreadable);
+        assert_is_at(rt, *row, router.verdict(&handle), unread);
+        router.give_up(alloc, handle).expect(rt, "memory");
+        assert_is_at(rt, *row, is_in_use(alloc, &mut router, 0), *goes_on);
+        if *goes_on {
+            come(rt, alloc, &mut router, END);
+            assert_is_at(rt, *row, is_in_use(alloc, &mut router, 0), false);
+        }
+    }
+}
+
+#[test]
+fn what_is_unread_ends_an_answer_by_its_header(rt: HostRuntime) {
+    gives_up_unread::<Queues>(&rt, rt.alloc());
+    gives_up_unread::<Log>(&rt, rt.alloc());
+}
+
+/// `RTM_GETLINK` with ROOT and ACK: Linux answers by a dump, and sends no acknowledgement (`rtnetlink_rcv_msg`).
+fn expects<D: Deliveries>(rt: &impl Abort, alloc: Global, row: &str) {
+    let flags = NlmF::from(0x104);
+    let (mut router, _multicast) = NlRouter::<D>::new(alloc, 7);
+    let body = NlPayload::Payload(Buffer::new(alloc));
+    let answering = Answering::of(NlFamily::Route, 18, flags, 16);
+    let sent = router.send_expecting::<u16, Buffer, u16, Buffer>(alloc, answering, 18, flags, body);
+    let mut dump = sent.expect(rt, "a number and memory").1;
+    come(rt, alloc, &mut router, PART);
+    come(rt, alloc, &mut router, END);
+    assert_is_at(rt, row, read(rt, alloc, &mut router, &mut dump).len(), 2);
+    assert_is_at(rt, row, router.verdict(&dump), Verdict::Complete);
+
+    let (mut router, _multicast) = NlRouter::<D>::new(alloc, 7);
+    let mut waits = request(rt, alloc, &mut router, 0x104);
+    come(rt, alloc, &mut router, PART);
+    come(rt, alloc, &mut router, END);
+    assert_is_at(rt, row, read(rt, alloc, &mut router, &mut waits).len(), 2);
+    assert_is_at(rt, row, router.verdict(&waits), Verdict::Pending);
+}
+
+#[test]
+fn a_dump_that_is_expected_waits_for_no_acknowledgement(rt: HostRuntime) {
+    expects::<Queues>(&rt, rt.alloc(), "lists");
+    expects::<Log>(&rt, rt.alloc(), "the log");
+}
+
+/// A dump of the devices of the family `netdev`, whose messages lack MULTI: recording 0863.
+const DEVICES: &str =
+    "400000001400000017040000494300000101000008000100010000000c00030000000000000000000c00050000000000\
+    000000000c0006000000000000000000400000001400000017040000494300000101000008000100020000000c000300\
+    23000000000000000c00050007000000000000000c000600000000000000000040000000140000001704000049430000\
+    0101000008000100030000000c00030023000000000000000c00050007000000000000000c0006000000000000000000\
+    1400000003000200170400004943000000000000";
+
+#[test]
+fn a_recorded_dump_without_multi_is_not_complete_at_its_first_message(rt: HostRuntime) {
+    let alloc = rt.alloc();
+    let (mut router, _multicast) = NlRouter::<Log>::new(alloc, 17225);
+    router.set_next_seq(1047);
+    let mut handle = request(&rt, alloc, &mut router, DUMP);
+    come(&rt, alloc, &mut router, DEVICES);
+    let items = read(&rt, alloc, &mut router, &mut handle);
+    assert_is_at(&rt, "items", items.len(), 1);
+    let unended = Verdict::Lost(Loss::Unended);
+    assert_is_at(&rt, "its verdict", router.verdict(&handle), unended);
+    let heard = router.heard(&handle).expect(&rt, "an open handle");
+    assert_is_at(&rt, "what is heard", heard.verdict, unended);
+    router.give_up(alloc, handle).expect(&rt, "memory");
+    assert_is_at(&rt, "given up", is_in_use(alloc, &mut router, 1047), false);
+}
+
 /// The answer of a kernel to a dump of a table that is not there, recording 0372: an end with the code -2 (`ENOENT`), and
 /// with the mark that it did filter.
 const NO_TABLE: &str =
@@ -356,4 +463,5 @@ fn laws_of_verdicts_are_called() {
     verdicts_stay::<u16, Buffer>();
     given_items_stand_alike::<u16, Buffer>();
     complete_answers_are_whole::<u16, Buffer>();
+    complete_dumps_have_ended::<u16, Buffer>();
 }

@@ -4,7 +4,7 @@ use Rattle.neli_router.specs.declared.verdict.Heard.{Heard}
 use Rattle.neli_router.specs.declared.verdict.Verdict.{Verdict}
 use Rattle.std.specs.Prelude.{Option}
 use Rattle.neli_c_parts.specs.Verdicts.{filtered_byte, verdict_code, verdict_error}
-use Rattle.neli_c_parts.proofs.Hears.{tells}
+use Rattle.neli_c_parts.proofs.Hears.{filtered-settled, tells}
 use Rattle.neli_c_parts.proofs.session.Session.verdict.Goals as goal
 
 pub returns : goal.returns
@@ -15,4 +15,4 @@ returns c =
     ∙ c.of_verdict.ensures ∙ ap (λ (v : Verdict). verdict_code v) c.verdict-stands.ensures)
     (to_z-of_z w32 c.verdict_error.result (record { sfits = c.verdict_error.type_inv })
     ∙ c.verdict_error.ensures ∙ ap (λ (v : Verdict). verdict_error v) c.verdict-stands.ensures)
-    (c.filtered_byte.ensures ∙ ap (λ (h : Option Heard). filtered_byte h) c.heard.ensures)
+    (c.filtered_byte.ensures ∙ (ap (λ (h : Option Heard). filtered_byte h) c.heard.ensures ∙ filtered-settled _))
