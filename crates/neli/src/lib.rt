@@ -8,6 +8,7 @@
 //! | to read, build and write messages | [`nl`], [`iter`] |
 //! | to look up and nest attributes | [`attr`], [`genl`], [`rtnl`], [`types`] |
 //! | each reply at its request | [`router::synchronous`] |
+//! | the same without copies, where an answer ends by its protocol | [`session`] |
 //! | numbers and flags of the kernel's headers | [`consts`] |
 //! | the calls that a program writes most, each in one line | [`short`] |
 //! | to look at a few fields of many messages, without a copy | [`lent`] |
@@ -135,6 +136,7 @@ pub mod nl;
 pub mod router;
 pub mod rtnl;
 pub mod schema;
+pub mod session;
 pub mod short;
 pub mod show;
 pub mod simulator;

@@ -3,6 +3,7 @@
 //! - [`values`]: the wire layer, constants, groups and bit arrays. [`attributes`]: attributes and lists of them.
 //! - [`bodies`]: the bodies of all families. [`payloads`]: attributes' payloads other than numbers and texts.
 //! - [`messages`]: messages, owned and lent. [`router`]: the router and the resolvers, over each store.
+//! - [`session`]: a session: its requests, its readers and their verdicts.
 //! - [`simulator`]: a kernel's answers. [`schema`]: messages by the tables of their families. [`programs`]: whole
 //!   programs. [`doors`]: what the exports of `neli_c` stand on. [`trial`]: what is changed at random.
 #![tactic(auto)]
@@ -23,6 +24,8 @@ mod programs;
 mod router;
 #[cfg(test)]
 mod schema;
+#[cfg(test)]
+mod session;
 #[cfg(test)]
 mod simulator;
 #[cfg(test)]

@@ -1,0 +1,31 @@
+//! All scripts, as they are written, and with each datagram regrouped in two.
+
+use super::script::{Grouping, Script, play};
+use super::{answers, numbers, readers};
+use neli::session::{Next, Reader, Session};
+
+/// The scripts of all tables.
+pub const TABLES: [&[Script]; 3] = [&answers::SCRIPTS, &readers::SCRIPTS, &numbers::SCRIPTS];
+
+#[test]
+fn reads_return_what_came(rt: HostRuntime) {
+    for script in TABLES.iter().flat_map(|table| table.iter()) {
+        play(&rt, rt.alloc(), *script, Grouping::AsWritten);
+    }
+}
+
+#[test]
+fn regrouped_datagrams_give_the_same_reads(rt: HostRuntime) {
+    for script in TABLES.iter().flat_map(|table| table.iter()) {
+        play(&rt, rt.alloc(), *script, Grouping::InTwo);
+    }
+}
+
+#[test]
+fn what_nobody_asked_for_is_kept_where_wanted_alone(rt: HostRuntime) {
+    let mut session = Session::new(rt.alloc(), 7, false);
+    let stray = b"\x10\0\0\0\x10\0\0\0\x09\0\0\0\x07\0\0\0";
+    assert!(rt; session.receive(stray, 0, false).is_ok());
+    assert!(rt; matches!(session.next(Reader::Unasked), Next::Closed));
+    assert!(rt; matches!(session.next(Reader::Multicast), Next::Waits));
+}
