@@ -23,3 +23,8 @@
 //! ```
 
 pub use neli_session::{Answering, ExpectError, Loss, Next, Reader, Session, Untaken, Verdict};
+
+/// Laws: what the reads of a request return, whatever happens to it, and what a datagram is for one request.
+pub mod laws {
+    pub use neli_session::laws::{datagrams_are_happenings, reads_are_the_answer};
+}
