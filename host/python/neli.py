@@ -314,6 +314,7 @@ class Message:
             header_size = 4 if self.family not in (None, NETLINK_ROUTE) else _HEADERS.get(self.type & ~3)
         if header_size is None:
             raise ValueError(f"the header of type {self.type} is not known: pass its size")
+        _fit(32, header_size=header_size)
         start = (header_size + 3) & ~3
         if start > len(self.payload):
             raise ValueError(_text_of(SHORT))
@@ -395,7 +396,9 @@ class Lent(Message):
 
 def messages(data, family=None):
     """The messages of a datagram; ValueError if it cannot be read to its end."""
-    data, found = bytes(data), []
+    data, found = _bytes("data", data), []
+    if family is not None:
+        _fit(16, family=family)
     walk = _Walk(0, len(data))
     while True:
         read = _Message()
@@ -407,24 +410,86 @@ def messages(data, family=None):
         found.append(Message(data, read, family))
 
 
-def _fit(bits, *numbers):
-    """Refuses a number that so many bits cannot hold, which ctypes would cut."""
-    for number in numbers:
+def _wrong(name, value, wanted, hint=""):
+    """The error for an argument of another type."""
+    return TypeError(f"{name} has to be {wanted}, not {type(value).__name__}{hint}")
+
+
+def _check_number(name, value, hint=""):
+    if not hasattr(type(value), "__index__"):
+        raise _wrong(name, value, "a number", hint)
+
+
+def _fit(bits, **numbers):
+    """Refuses what is no number, and a number that so many bits cannot hold, which ctypes would cut."""
+    for name, number in numbers.items():
+        _check_number(name, number)
         if not 0 <= number < 1 << bits:
-            raise ValueError(f"{number} does not fit {bits} bits")
+            raise ValueError(f"{name}: {number} does not fit {bits} bits")
+
+
+def _fit_error(name, number):
+    """The same for a number that may be below 0, in 32 bits."""
+    _check_number(name, number)
+    if not -1 << 31 <= number < 1 << 31:
+        raise ValueError(f"{name}: {number} does not fit 32 bits")
+
+
+def _view(name, value, wanted="bytes", hint=""):
+    try:
+        return memoryview(value)
+    except TypeError:
+        raise _wrong(name, value, wanted, hint) from None
+
+
+def _bytes(name, value, wanted="bytes", hint=""):
+    """The bytes of an argument: of a number `bytes` would make as many zeros."""
+    return bytes(value if hasattr(type(value), "__bytes__") else _view(name, value, wanted, hint))
+
+
+def _items(name, value, wanted):
+    """An iterator over an argument that is a list."""
+    if not isinstance(value, (str, bytes, bytearray, memoryview)):
+        try:
+            return iter(value)
+        except TypeError:
+            pass
+    raise _wrong(name, value, wanted)
+
+
+def _groups(groups):
+    groups = list(_items("groups", groups, "a list of numbers"))
+    for it in groups:
+        _fit(32, **{"each of groups": it})
+    return groups
+
+
+def _requests(requests):
+    """The arguments of requests: a type, flags and a body of each."""
+    found = []
+    for it in _items("requests", requests, "a list of requests"):
+        words = tuple(_items("each of requests", it, "a type, flags and a body"))
+        if len(words) != 3:
+            raise TypeError(f"each of requests has to be a type, flags and a body, not {len(words)} values")
+        _fit(16, msg_type=words[0], msg_flags=words[1])
+        found.append((*words[:2], _bytes("body", words[2])))
+    return found
 
 
 def nla(number, value, nested=False):
     """An attribute with its padding, as bytes: of bytes, of a text with its zero byte, or of a list of attributes.
 
-    A ValueError if its payload has more than 65531 bytes, or its number does not fit 16 bits.
+    A number is passed as its bytes: `(1400).to_bytes(4, "little")`. A ValueError if its payload has more than 65531
+    bytes, or its number does not fit 16 bits.
     """
-    _fit(16, number)
+    _fit(16, number=number)
     if isinstance(value, (list, tuple)):
-        value, nested = b"".join(value), True
+        value, nested = b"".join(_view("each of value", it) for it in value), True
     if isinstance(value, str):
         value = os.fsencode(value) + b"\0"
-    value, writer, kind = bytes(value), _Writer(0, 0), number | (NESTED if nested else 0)
+    hint = '; a number of 4 bytes is value.to_bytes(4, "little")' if isinstance(value, int) else ""
+    value = _bytes("value", value, "bytes, a text or a list of attributes", hint)
+    writer, kind = _Writer(0, 0), number | (NESTED if nested else 0)
     out = ctypes.create_string_buffer(len(value) + 8)
     code = _lib.neli_c_put_attribute(out, len(out), ctypes.byref(writer), kind, value, len(value))
     if code != OK:
@@ -534,9 +599,10 @@ class _Socket:
     """What the socket of the kernel and the simulated one share, over calls of a library that each has of its own."""
 
     def __init__(self, family=NETLINK_ROUTE, groups=()):
+        _fit(16, family=family)
         self.family, self._at, self._said, self._lent, self._under_way = family, None, None, None, {}
         self._dropped = []  # the handles that nobody keeps; each time it is opened it has a list of its own
-        self._call(self._open, list(groups))
+        self._call(self._open, _groups(groups))
 
     def bind(self, groups=()):
         """Opens it again, in these groups; closes the open socket.
@@ -544,7 +610,7 @@ class _Socket:
         A NetlinkError if the system refuses the socket or a group; then it is closed. A ValueError if a group does not
         fit 32 bits.
         """
-        self._call(self._open, list(groups))
+        self._call(self._open, _groups(groups))
 
     def close(self):
         """Closes it; it may be closed again."""
@@ -629,8 +695,8 @@ class _Socket:
 
         A NetlinkError if it is not sent; a ValueError if its type or flags do not fit 16 bits.
         """
-        _fit(16, msg_type, msg_flags)
-        return self._call(self._send, msg_type, msg_flags, bytes(body))
+        _fit(16, msg_type=msg_type, msg_flags=msg_flags)
+        return self._call(self._send, msg_type, msg_flags, _bytes("body", body))
 
     def nlm_request(self, body, msg_type, msg_flags=NLM_F_REQUEST | NLM_F_ACK):
         """As `request`, with the body first as in pyroute2; returns the list of its messages, or raises as a Reply."""
@@ -646,6 +712,8 @@ class _Socket:
 
         A NetlinkError reports why it is incomplete: `status` is INTERRUPTED if it still changed.
         """
+        _check_number("times", times)
+        _fit(16, msg_flags=msg_flags)
         for left in reversed(range(max(1, times))):
             try:
                 return self.nlm_request(body, msg_type, msg_flags | NLM_F_DUMP)
@@ -669,6 +737,8 @@ def _milliseconds(seconds):
     """A timeout as the library takes it, an int of C."""
     if seconds is None:
         return -1
+    if not hasattr(type(seconds), "__float__"):
+        raise _wrong("seconds", seconds, "a number or None")
     if seconds < 0:
         raise ValueError("a timeout is not below 0")
     return int(min(seconds * 1000, 2147483647))
@@ -682,7 +752,6 @@ class NetlinkSocket(_Socket):
     """
 
     def _open(self, groups):
-        _fit(32, *groups)
         self._shut()
         at, numbers = ctypes.c_void_p(), (ctypes.c_uint32 * max(1, len(groups)))(*groups)
         code = _lib.neli_host_open(ctypes.byref(at), self.family, numbers, len(groups))
@@ -779,10 +848,7 @@ class NetlinkSocket(_Socket):
         The kernel performs them in their order, also past one that it refuses. A refusal to send sends none of them: it
         raises a NetlinkError, whose `status` is KIND if two of them are dumps, or a ValueError as `request` does.
         """
-        requests = [(kind, flags, bytes(body)) for kind, flags, body in requests]
-        for kind, flags, _ in requests:
-            _fit(16, kind, flags)
-        return self._call(self._send_all, requests)
+        return self._call(self._send_all, _requests(requests))
 
     def _send_all(self, requests):
         handles = (ctypes.c_size_t * max(1, len(requests)))()

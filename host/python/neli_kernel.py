@@ -18,6 +18,7 @@ import errno
 import io
 import os
 import struct
+from collections.abc import Mapping
 
 import neli
 from neli import ANSWERING_DUMP, END, ITEM, KERNEL_ERROR, KIND, LINK, MULTICAST, NLM_F_ACK, NLM_F_MULTI
@@ -101,15 +102,26 @@ def _made(call, *words):
 def _listed(ext_ack):
     """The attributes of an extended acknowledgement: by number, as {1: "No such device", 2: 32}, or as bytes."""
     if not isinstance(ext_ack, dict):
-        return bytes(ext_ack)
-    return b"".join(neli.nla(number, struct.pack("<I", it) if isinstance(it, int) else it) for number, it in ext_ack.items())
+        return neli._bytes("ext_ack", ext_ack, "a dictionary or bytes")
+    return b"".join(_acknowledged(number, it) for number, it in ext_ack.items())
+
+
+def _acknowledged(number, value):
+    """An attribute of an extended acknowledgement."""
+    neli._fit(16, **{"each number of ext_ack": number})
+    name = f"attribute {number} of ext_ack"
+    if isinstance(value, int):
+        neli._fit(32, **{name: value})
+        value = struct.pack("<I", value)
+    is_list_or_text = isinstance(value, (str, list, tuple))
+    return neli.nla(number, value if is_list_or_text else neli._bytes(name, value, "a number, a text or bytes"))
 
 
 class Request(neli.Message):
     """A request as a kernel takes it, from the socket of `port`; `error`, below 0, is as -22 for EINVAL.
 
-    Each answer raises a ValueError if it is too long, if its type or flags do not fit 16 bits, if `ext_ack` is no list
-    of attributes, and if memory runs out.
+    Each answer raises a ValueError if it is too long, if its type or flags do not fit 16 bits or `error` and numbers of
+    `ext_ack` 32, if `ext_ack` is no list of attributes, and if memory runs out.
     """
 
     def __init__(self, data, read):
@@ -125,6 +137,7 @@ class Request(neli.Message):
 
     def error(self, error, ext_ack=b"", is_capped=True):
         """The error with the request's header alone, or with the whole request."""
+        neli._fit_error("error", error)
         text, asked = _listed(ext_ack), ctypes.byref(self._asked)
         if is_capped:
             return _made(_lib.neli_c_kernel_capped_error, asked, error, text, len(text))
@@ -132,7 +145,8 @@ class Request(neli.Message):
 
     def reply(self, msg_type, body=b"", msg_flags=0):
         """One reply."""
-        neli._fit(16, msg_type, msg_flags)
+        neli._fit(16, msg_type=msg_type, msg_flags=msg_flags)
+        body = neli._bytes("body", body)
         return _made(_lib.neli_c_kernel_reply, ctypes.byref(self._asked), msg_type, msg_flags, body, len(body))
 
     def dump(self, listed, msg_flags=0, error=0, ext_ack=b"", limit=8192):
@@ -140,15 +154,19 @@ class Request(neli.Message):
 
         A ValueError also if a message is longer than `limit`.
         """
-        neli._fit(16, msg_flags)
+        neli._fit(16, msg_flags=msg_flags)
+        neli._fit(64, limit=limit)
+        neli._fit_error("error", error)
         dump, text = _Opaque(), _listed(ext_ack)
         at = ctypes.byref(dump)
         try:
             codes = [_lib.neli_c_kernel_dump_new(at, ctypes.byref(self._asked), limit)]
-            for it in listed:
-                body = it.get("body", b"")
-                neli._fit(16, it["type"], it.get("flags", 0))
-                codes.append(_lib.neli_c_kernel_dump_push(at, it["type"], it.get("flags", 0), body, len(body)))
+            for it in neli._items("listed", listed, "a list of dictionaries"):
+                if not isinstance(it, Mapping):
+                    raise neli._wrong("each of listed", it, "a dictionary")
+                flags, body = it.get("flags", 0), neli._bytes("body", it.get("body", b""))
+                neli._fit(16, type=it["type"], flags=flags)
+                codes.append(_lib.neli_c_kernel_dump_push(at, it["type"], flags, body, len(body)))
             codes.append(_lib.neli_c_kernel_dump_finish(at, msg_flags, error, text, len(text)))
             if any(codes):
                 raise ValueError(neli._text_of(next(it for it in codes if it)))
@@ -158,8 +176,12 @@ class Request(neli.Message):
 
 
 def requests(data, port):
-    """The requests of a datagram that the socket of a port sent; ValueError where it cannot be read to its end."""
-    data, found = bytes(data), []
+    """The requests of a datagram that the socket of a port sent.
+
+    A ValueError if it cannot be read to its end, or if the port does not fit 32 bits.
+    """
+    neli._fit(32, port=port)
+    data, found = neli._bytes("data", data), []
     walk = neli._Walk(0, len(data))
     while True:
         read = _Request()
@@ -188,8 +210,9 @@ def notification(msg_type, body=b"", msg_flags=0, number=0, port=0):
 
     A ValueError if it is too long, if type or flags do not fit 16 bits or number or port 32, and if memory runs out.
     """
-    neli._fit(16, msg_type, msg_flags)
-    neli._fit(32, number, port)
+    neli._fit(16, msg_type=msg_type, msg_flags=msg_flags)
+    neli._fit(32, number=number, port=port)
+    body = neli._bytes("body", body)
     return _made(_lib.neli_c_kernel_notification, msg_type, msg_flags, number, port, body, len(body))
 
 
@@ -197,10 +220,14 @@ class SimulatedSocket(neli._Socket):
     """A socket with a kernel of your own: `serve` gives the datagrams of the answer to a Request.
 
     It never waits, is in all groups, and has no file descriptor. Where nothing is left, a read raises a NetlinkError,
-    whose `status` is WAITS, and its Reply is closed. What `serve` raises, the request raises.
+    whose `status` is WAITS, and its Reply is closed. What `serve` raises, the request raises. A ValueError if the
+    family does not fit 16 bits, or the port 32.
     """
 
     def __init__(self, serve, family=neli.NETLINK_ROUTE, port=4711):
+        if not callable(serve):
+            raise neli._wrong("serve", serve, "a function")
+        neli._fit(32, port=port)
         self._serve, self._port, self._router, self._is_stopped = serve, port, _Opaque(), False
         super().__init__(family)
 
@@ -235,19 +262,19 @@ class SimulatedSocket(neli._Socket):
 
     def request(self, msg_type, msg_flags=NLM_F_ACK, body=b""):
         """Sends a request, which `serve` answers, and returns its Reply; refused as that of a NetlinkSocket."""
-        neli._fit(16, msg_type, msg_flags)
-        reply, sent = self._call(self._send, msg_type, msg_flags, bytes(body))
+        neli._fit(16, msg_type=msg_type, msg_flags=msg_flags)
+        body = neli._bytes("body", body)
+        reply, sent = self._call(self._send, msg_type, msg_flags, body)
         is_dump = self._is_dump(msg_type, msg_flags, body)
         for request in requests(sent, self._port):
-            for datagram in self._serve(request):
+            for datagram in neli._items("what serve returns", self._serve(request), "a list of datagrams"):
+                datagram = neli._bytes("each datagram of serve", datagram)
                 self.deliver(_as_parts(datagram, request.sequence_number) if is_dump else datagram)
         return reply
 
     def request_all(self, requests):
         """As one `request` after the other. A NetlinkError of the status KIND if two are dumps; then none is sent."""
-        requests = [(kind, flags, bytes(body)) for kind, flags, body in requests]
-        for kind, flags, _ in requests:
-            neli._fit(16, kind, flags)
+        requests = neli._requests(requests)
         self._opened()
         if sum(self._is_dump(*it) for it in requests) > 1:
             raise self._error(KIND)
@@ -273,8 +300,8 @@ class SimulatedSocket(neli._Socket):
 
         A NetlinkError if memory runs out; a ValueError if the group does not fit 32 bits.
         """
-        neli._fit(32, group)
-        self._call(self._take_in, datagram, ctypes.c_uint32(group))
+        neli._fit(32, group=group)
+        self._call(self._take_in, neli._bytes("datagram", datagram), ctypes.c_uint32(group))
 
     def _take_in(self, datagram, group):
         self._well(_lib.neli_c_router_datagram(self._opened(), datagram, len(datagram), ctypes.byref(group), 1))

@@ -88,6 +88,13 @@ def _part(text, place, length):
     return text[place : place + length].decode("utf-8", "surrogateescape")
 
 
+def _encoded(name, text):
+    """The bytes of a text."""
+    if not isinstance(text, (str, bytes)):
+        raise neli._wrong(name, text, "a text")
+    return os.fsencode(text)
+
+
 def _done(code):
     if code != OK:
         raise neli.NetlinkError(0, neli._text_of(code), code)
@@ -123,7 +130,7 @@ class Schema:
 
     def add(self, text):
         """Adds the table of a family behind the others; a TableError if it is none."""
-        text = os.fsencode(text) if isinstance(text, str) else bytes(text)
+        text = os.fsencode(text) if isinstance(text, str) else neli._bytes("text", text, "a text or bytes")
         self._texts.append(text)  # the library reads it in place
         line = ctypes.c_size_t()
         tables = ctypes.byref(self._tables)
@@ -134,12 +141,14 @@ class Schema:
 
     def learn(self, number, name):
         """Learns that the family of generic netlink with this name has this number; a ValueError past 16 bits."""
-        neli._fit(16, number)
-        name = os.fsencode(name)
+        neli._fit(16, number=number)
+        name = _encoded("name", name)
         _done(_lib.neli_c_tables_learn(ctypes.byref(self._tables), number, name, len(name)))
 
     def _words(self, message):
         """What the calls on a message begin with."""
+        if not isinstance(message, neli.Message):
+            raise neli._wrong("message", message, "a Message")
         data, protocol = message._data, message.family or 0
         return ctypes.byref(self._tables), protocol, data, len(data), ctypes.byref(message._read)
 
@@ -165,7 +174,8 @@ class Schema:
 
     def datagram_json(self, data, family=neli.NETLINK_ROUTE):
         """The messages of a datagram as lines of JSON, and one more for the fault behind them, if there is one."""
-        data = bytes(data)
+        data = neli._bytes("data", data)
+        neli._fit(16, family=family)
         words = ctypes.byref(self._tables), family, data, len(data)
         code, text = _written(_lib.neli_c_datagram_json, *words)
         _done(code)
@@ -216,14 +226,20 @@ class Schema:
 
     def path_at(self, message, offset):
         """The path to the attribute at an offset of a message, or None."""
+        neli._fit(64, offset=offset)
         code, path = _written(_lib.neli_c_path_at, *self._words(message), offset)
         if code not in (OK, ITEM):
             _done(code)
         return path if code == ITEM else None
 
     def refusal(self, message, code, text="", offset=0):
-        """The kernel's refusal of a request in a line, which names the attribute; `code` is below 0."""
-        text = os.fsencode(text)
+        """The kernel's refusal of a request in a line, which names the attribute; `code` is below 0.
+
+        `text` and `offset` are those of a NetlinkError, which may be None. A ValueError if `code` does not fit 32 bits.
+        """
+        offset, text = 0 if offset is None else offset, b"" if text is None else _encoded("text", text)
+        neli._fit(64, offset=offset)
+        neli._fit_error("code", code)
         code, line = _written(_lib.neli_c_refusal_text, *self._words(message), code, text, len(text), offset)
         _done(code)
         return line
