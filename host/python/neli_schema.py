@@ -20,7 +20,7 @@ from neli import ITEM, KIND, OK, ROOM
 __all__ = ["Schema", "TableError"]
 
 # neli.h
-VIOLATION, TABLE = 6, -17
+VIOLATION, STATE, TABLE = 6, -5, -17
 KIND_NEST, KIND_HOPS, KIND_HOP, KIND_REST = 27, 28, 32, 35
 
 
@@ -97,7 +97,7 @@ def _encoded(name, text):
 
 def _done(code):
     if code != OK:
-        raise neli.NetlinkError(0, neli._text_of(code), code)
+        raise neli.NetlinkError(0, "the schema is closed" if code == STATE else neli._text_of(code), code)
 
 
 class Schema:
