@@ -5,7 +5,7 @@ C layer, which this file calls by ctypes. It needs Python 3.8 and nothing else.
 
     import neli
     with neli.NetlinkSocket(neli.NETLINK_ROUTE) as sock:
-        for link in sock.dump(neli.RTM_GETLINK, bytes(16)):
+        for link in sock.dump(neli.RTM_GETLINK):
             print(link.get_attr(neli.IFLA_IFNAME).text(), link.get_attr(neli.IFLA_MTU).u32())
 
 Names are those of pyroute2 where it has the same: NetlinkSocket, NetlinkError with `code`, `bind`, `get`, `get_attr`,
@@ -44,7 +44,7 @@ GENL_ID_CTRL, CTRL_CMD_GETFAMILY, CTRL_ATTR_FAMILY_ID, CTRL_ATTR_FAMILY_NAME = 1
 OK = END = 0
 ITEM, WAITS, KERNEL_ERROR, INTERRUPTED = 1, 2, 3, 4
 SHORT, LENGTH, MEMORY, ROOM, HANDLE, LINK, KIND = -1, -2, -3, -4, -6, -11, -15
-ANSWERING_DUMP = 0
+ANSWERING_DUMP, ANSWERING_SILENCE = 0, 3
 MULTICAST = 0
 NESTED = 0x8000
 
@@ -100,6 +100,7 @@ def _library():
     calls = {
         "neli_version": (ctypes.c_char_p, []),
         "neli_stamp": (ctypes.c_char_p, []),
+        "neli_c_answering": (i32, [i32, u16, u16, size]),
         "neli_c_error_text": (i32, [i32, ctypes.c_char_p, size, pointer]),
         "neli_c_next_message": (i32, [ctypes.c_char_p, size, pointer, pointer]),
         "neli_c_next_attributes": (i32, [ctypes.c_char_p, size, pointer, pointer, size, pointer]),
@@ -706,12 +707,25 @@ class _Socket:
         finally:
             reply.close()
 
-    def dump(self, msg_type, body=b"", msg_flags=0, times=5):
+    def _dump_body(self, msg_type, body):
+        """The body of a dump: by default, in routing, the header of its type, without which Linux answers nothing."""
+        _fit(16, msg_type=msg_type)
+        if body is not None:
+            return _bytes("body", body)
+        size = _HEADERS.get(msg_type & ~3, 0) if self.family == NETLINK_ROUTE else 0
+        if _lib.neli_c_answering(self.family, msg_type, NLM_F_REQUEST | NLM_F_DUMP, size) == ANSWERING_SILENCE:
+            raise ValueError(f"a dump of type {msg_type} has no default body that Linux answers: pass one")
+        return bytes(size)
+
+    def dump(self, msg_type, body=None, msg_flags=0, times=5):
         """The messages of a whole list, which is requested again, at most so many times, if it changed meanwhile, a
         fault of the socket lost a part, or the kernel was busy.
 
-        A NetlinkError reports why it is incomplete: `status` is INTERRUPTED if it still changed.
+        The default body is, of NETLINK_ROUTE, the header of the type in zeros, which lists all objects, and of other
+        families none; a ValueError if Linux would not answer that. A NetlinkError reports why the list is incomplete:
+        `status` is INTERRUPTED if it still changed.
         """
+        body = self._dump_body(msg_type, body)
         _check_number("times", times)
         _fit(16, msg_flags=msg_flags)
         for left in reversed(range(max(1, times))):

@@ -53,7 +53,6 @@ def _library():
     pointer, size, u16, u32 = ctypes.c_void_p, ctypes.c_size_t, ctypes.c_uint16, ctypes.c_uint32
     i32, slice_of, room = ctypes.c_int32, [ctypes.c_char_p, size], [pointer, size, pointer]
     calls = {
-        "neli_c_answering": [i32, u16, u16, size],
         "neli_c_router_new": [pointer, u32],
         "neli_c_router_free": [pointer],
         "neli_c_router_send_expecting": [pointer, u32, u16, u16, *slice_of, *room],
