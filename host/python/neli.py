@@ -8,8 +8,9 @@ C layer, which this file calls by ctypes. It needs Python 3.8 and nothing else.
         for link in sock.dump(neli.RTM_GETLINK):
             print(link.get_attr(neli.IFLA_IFNAME).text(), link.get_attr(neli.IFLA_MTU).u32())
 
-Names are those of pyroute2 where it has the same: NetlinkSocket, NetlinkError with `code`, `bind`, `get`, `get_attr`,
-`nlm_request`. NELI_LIBRARY in the environment names another library than libneli.so.0.
+Calls have pyroute2's names where it has the same: NetlinkSocket, NetlinkError with `code`, `bind`, `get`, `get_attr`,
+`nlm_request`. Attributes have numbers here, as IFLA_IFNAME; a Schema of neli_schema has them by name. NELI_LIBRARY in
+the environment names another library than libneli.so.0.
 """
 
 import ctypes
@@ -250,7 +251,8 @@ class Attribute:
         return _attributes(self.payload, 0, len(self.payload))
 
     def get_attr(self, number):
-        """The first of them with this number, or None; a ValueError as of `attrs`."""
+        """The first of them with this number, as IFLA_INFO_KIND, or None; a ValueError as of `attrs`."""
+        _fit_attribute(number)
         return _first(self.attrs(), number)
 
 
@@ -329,7 +331,8 @@ class Message:
         return _attributes(self.payload, self._start(header_size), len(self.payload))
 
     def get_attr(self, number, header_size=None):
-        """The first attribute with this number, or None; a ValueError as of `attrs`."""
+        """The first attribute with this number, as IFLA_IFNAME, or None; a ValueError as of `attrs`."""
+        _fit_attribute(number)
         return _first(self.attrs(header_size), number)
 
 
@@ -434,6 +437,11 @@ def _fit_error(name, number):
     _check_number(name, number)
     if not -1 << 31 <= number < 1 << 31:
         raise ValueError(f"{name}: {number} does not fit 32 bits")
+
+
+def _fit_attribute(number):
+    _check_number("number", number, "; `values` and `items` of a Schema of neli_schema have attributes by name")
+    _fit(16, number=number)
 
 
 def _view(name, value, wanted="bytes", hint=""):
