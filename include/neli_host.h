@@ -5,9 +5,10 @@
  * in the datagrams that arrive, whole, once and in order.
  *
  * Calls return a code of neli.h. NELI_LINK means that the socket failed: `neli_host_fault` then returns the number in
- * errno.h. EAGAIN, EINTR and ECANCELED only mean that the caller's wait has ended, not that the socket failed. Unless a
- * call states otherwise, pointer arguments are not null, and one that sends, reads or receives returns NELI_MEMORY if
- * memory runs out, and can then be repeated.
+ * errno.h. EAGAIN, EINTR and ECANCELED only mean that the caller's wait has ended, not that the socket failed. One that
+ * sends, reads or receives returns NELI_MEMORY if memory runs out, and can then be repeated. If a pointer is null where
+ * a call does not allow it, or a length is past PTRDIFF_MAX, a call with a code returns NELI_NULL and changes nothing;
+ * another does nothing, and returns 0, NULL or false.
  *
  * A host is used by one thread at a time; `neli_host_stop` may be called at any time, by any thread and by a signal's
  * handler. Link with -lneli. */
@@ -40,7 +41,7 @@ void neli_host_close(struct neli_host *host);
 
 /* ---- What can be set and read at any time ---- */
 
-/* Returns the socket, for options and for poll(2); it stays the host's. -1 if none is open. */
+/* Returns the socket, for options and for poll(2); it stays the host's. -1 if none is open, or if `host` is null. */
 int neli_host_fd(const struct neli_host *host);
 
 /* Returns the port of the socket, which the kernel chose. */
@@ -161,8 +162,8 @@ bool neli_host_find(const struct neli_host *host, const struct neli_walk *walk, 
 const char *neli_host_text(const struct neli_host *host, const struct neli_attribute *attribute);
 
 /* Writes why the kernel refused, after NELI_KERNEL_ERROR: the meaning of its number, its text and its offset, if it
- * sent these; or the meaning of another code. `host` and `message` may be null for a code that is not of the kernel or
- * the socket, and `text` if `room` is 0. */
+ * sent these; or the meaning of another code. Where `host` or `message` is null it writes the meaning of the code alone.
+ * Nothing if `text` is null. */
 void neli_host_explain(const struct neli_host *host, int32_t code, const struct neli_message *message, char *text,
                        size_t room);
 

@@ -58,6 +58,7 @@ void host_end(struct neli_host *host) {
 }
 
 int32_t neli_host_receive(struct neli_host *host, size_t *length, uint32_t *group) {
+    if (host == NULL || length == NULL || group == NULL) return NELI_NULL;
     int64_t end = link_end_of_wait(&host->link);
     for (;;) {
         int32_t code = link_receive(&host->link, length, group);
@@ -248,6 +249,7 @@ static int32_t write_request(struct neli_host *host, uint32_t answering, const s
 
 int32_t neli_host_send(struct neli_host *host, uint16_t type, uint16_t flags, const void *body, size_t length,
                        size_t *handle) {
+    if (host == NULL || !neli_is_slice(body, length) || handle == NULL) return NELI_NULL;
     struct neli_host_request request = {type, flags, body, length};
     struct neli_sent sent;
     uint32_t number, answering = ledger_answering(&host->ledger, type, flags, length);
@@ -272,6 +274,7 @@ int32_t neli_host_send(struct neli_host *host, uint16_t type, uint16_t flags, co
 }
 
 int32_t neli_host_close_request(struct neli_host *host, size_t handle) {
+    if (host == NULL) return NELI_NULL;
     struct open *open = ledger_handle(&host->ledger, handle);
     if (open != NULL) ledger_give_up(&host->ledger, open);
     if (host->taken == handle) host->is_taken = false;
@@ -358,6 +361,7 @@ static int32_t read_now(struct neli_host *host, size_t handle, struct neli_messa
 }
 
 int32_t neli_host_verdict(struct neli_host *host, size_t handle, struct neli_verdict *verdict) {
+    if (host == NULL || verdict == NULL) return NELI_NULL;
     if (host->is_taken && host->taken == handle) {
         *verdict = (struct neli_verdict){0};
         return NELI_WAITS;
@@ -378,6 +382,7 @@ static int32_t wait_for_more(struct neli_host *host, int64_t end, bool *has_come
 }
 
 int32_t neli_host_next(struct neli_host *host, size_t handle, struct neli_message *message) {
+    if (host == NULL || message == NULL) return NELI_NULL;
     int64_t end = link_end_of_wait(&host->link);
     for (bool has_come = false;;) {
         int32_t code = read_now(host, handle, message);
@@ -399,6 +404,7 @@ static int32_t lend_now(struct neli_host *host, size_t handle, struct neli_lent 
 }
 
 int32_t neli_host_lend(struct neli_host *host, size_t handle, struct neli_lent *lent) {
+    if (host == NULL || lent == NULL) return NELI_NULL;
     int64_t end = link_end_of_wait(&host->link);
     if (host->is_taken && host->taken == handle) return NELI_MEMORY;
     for (bool has_come = false;;) {
@@ -422,6 +428,7 @@ static int32_t pass_multicast(struct neli_host *host) {
 }
 
 int32_t neli_host_pass(struct neli_host *host, size_t handle) {
+    if (host == NULL) return NELI_NULL;
     return handle == NELI_MULTICAST ? pass_multicast(host) : neli_router_pass(&host->router, handle);
 }
 
@@ -486,7 +493,12 @@ static int32_t take_dump(struct neli_host *host, const struct neli_dump *dump, s
     return code;
 }
 
+static bool is_whole(const struct neli_dump *dump) {
+    return dump != NULL && dump->take != NULL && neli_is_slice(dump->body, dump->length);
+}
+
 int32_t neli_host_dump(struct neli_host *host, const struct neli_dump *dump, struct neli_message *last) {
+    if (host == NULL || !is_whole(dump) || last == NULL) return NELI_NULL;
     int32_t code = take_dump(host, dump, last);
     for (int i = 1; i < dump->times && is_passing(host, code, last); i++) code = take_dump(host, dump, last);
     return code;
@@ -495,6 +507,7 @@ int32_t neli_host_dump(struct neli_host *host, const struct neli_dump *dump, str
 int32_t neli_host_resync(struct neli_host *host, const struct neli_dump *dump, struct neli_message *last) {
     int32_t code;
     int i = 0;
+    if (host == NULL || !is_whole(dump) || last == NULL) return NELI_NULL;
     do {
         code = drop_multicast(host);
         if (code != NELI_OK) return code;
@@ -507,10 +520,11 @@ int32_t neli_host_resync(struct neli_host *host, const struct neli_dump *dump, s
 
 bool neli_host_find(const struct neli_host *host, const struct neli_walk *walk, uint16_t number,
                     struct neli_attribute *found) {
-    return neli_find_attribute(host->item, host->item_length, walk, number, found) == NELI_ITEM;
+    return host != NULL && neli_find_attribute(host->item, host->item_length, walk, number, found) == NELI_ITEM;
 }
 
 const char *neli_host_text(const struct neli_host *host, const struct neli_attribute *attribute) {
+    if (host == NULL || attribute == NULL) return NULL;
     const uint8_t *payload = host->item + attribute->payload;
     size_t length;
     return neli_text_length(payload, attribute->payload_length, &length) == NELI_OK ? (const char *)payload : NULL;
@@ -531,13 +545,13 @@ static void append_words(const struct neli_host *host, const struct neli_answer 
 void neli_host_explain(const struct neli_host *host, int32_t code, const struct neli_message *message, char *text,
                        size_t room) {
     struct neli_answer answer;
-    bool is_answer = code == NELI_KERNEL_ERROR;
-    if (room == 0) return;
+    bool is_answer = host != NULL && code == NELI_KERNEL_ERROR;
+    if (text == NULL || room == 0) return;
     if (is_answer && neli_get_answer(host->item, host->item_length, message, &answer) == NELI_OK) {
         if (answer.code > -INT_MAX && answer.code < 0) snprintf(text, room, "%s", strerror(-answer.code));
         else snprintf(text, room, "error %d", answer.code);
         append_words(host, &answer, text, room);
-    } else if (code == NELI_LINK) {
+    } else if (host != NULL && code == NELI_LINK) {
         snprintf(text, room, "%s", strerror(host->fault));
     } else if (neli_error_text(code, text, room) != NELI_OK) {
         snprintf(text, room, "code %d", code);

@@ -5,6 +5,9 @@
 #include <string.h>
 
 int32_t neli_host_open(struct neli_host **host, int family, const uint32_t *groups, size_t count) {
+    if (host == NULL) return NELI_NULL;
+    *host = NULL;
+    if (count > PTRDIFF_MAX / sizeof *groups || !neli_is_slice(groups, count)) return NELI_NULL;
     *host = malloc(sizeof **host);
     return *host != NULL ? host_begin(*host, family, groups, count) : NELI_MEMORY;
 }
@@ -17,49 +20,50 @@ void neli_host_close(struct neli_host *host) {
 /* ---- What can be set and read at any time ---- */
 
 int neli_host_fd(const struct neli_host *host) {
-    return host->link.fd;
+    return host != NULL ? host->link.fd : -1;
 }
 
 uint32_t neli_host_port(const struct neli_host *host) {
-    return host->link.port;
+    return host != NULL ? host->link.port : 0;
 }
 
 int neli_host_fault(const struct neli_host *host) {
-    return host->fault;
+    return host != NULL ? host->fault : 0;
 }
 
 void neli_host_set_wait(struct neli_host *host, int milliseconds) {
-    host->link.wait = milliseconds;
+    if (host != NULL) host->link.wait = milliseconds;
 }
 
 void neli_host_set_ends_by_signals(struct neli_host *host, bool ends) {
-    host->link.ends_by_signals = ends;
+    if (host != NULL) host->link.ends_by_signals = ends;
 }
 
 void neli_host_set_keeps_unasked(struct neli_host *host, bool keeps) {
-    host->keeps_unasked = keeps;
+    if (host != NULL) host->keeps_unasked = keeps;
 }
 
 int32_t neli_host_set_strict(struct neli_host *host) {
+    if (host == NULL) return NELI_NULL;
     int32_t code = link_set_strict(&host->link);
     if (code == NELI_LINK) host->fault = host->link.fault;
     return code;
 }
 
 void neli_host_stop(const struct neli_host *host) {
-    link_stop(&host->link);
+    if (host != NULL) link_stop(&host->link);
 }
 
 const uint8_t *neli_host_item(const struct neli_host *host) {
-    return host->item;
+    return host != NULL ? host->item : NULL;
 }
 
 size_t neli_host_item_length(const struct neli_host *host) {
-    return host->item_length;
+    return host != NULL ? host->item_length : 0;
 }
 
 const uint8_t *neli_host_datagram(const struct neli_host *host) {
-    return host->link.room;
+    return host != NULL ? host->link.room : NULL;
 }
 
 /* ---- Several requests in one datagram ---- */
@@ -103,10 +107,18 @@ static void take_back(struct neli_host *host, const struct batch *batch) {
     if (batch->count > 0) neli_router_set_number(&host->router, batch->first);
 }
 
+static bool are_whole(const struct neli_host_request *requests, size_t count) {
+    if (count > PTRDIFF_MAX / sizeof *requests || !neli_is_slice(requests, count)) return false;
+    for (size_t i = 0; i < count; i++)
+        if (!neli_is_slice(requests[i].body, requests[i].length)) return false;
+    return true;
+}
+
 int32_t neli_host_send_all(struct neli_host *host, const struct neli_host_request *requests, size_t count,
                            size_t *handles) {
     struct batch batch = {.handles = handles};
     size_t dumps = 0;
+    if (host == NULL || !are_whole(requests, count) || !neli_is_slice(handles, count)) return NELI_NULL;
     for (size_t i = 0; i < count; i++) dumps += answering_of(host, &requests[i]) == NELI_ANSWERING_DUMP;
     if (dumps > 1) return NELI_KIND;
     if (count == 0) return NELI_OK;

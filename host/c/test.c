@@ -203,6 +203,90 @@ static void nothing_that_is_wrong_crosses(void) {
     WANT(neli_router_free(&router) == NELI_OK && neli_router_read(&router, 0, &item) == NELI_STATE);
 }
 
+static void take_nothing(const struct neli_host *host, const struct neli_message *message, void *list) {
+    (void)host, (void)message, (void)list;
+}
+
+/* A null pointer is refused as the calls of neli.h refuse it. */
+static void null_pointers_are_refused(void) {
+    struct neli_host *host = route_host(false), *none = host;
+    struct neli_host_request request = {RTM_GETLINK, 0, NULL, 16};
+    struct neli_dump dump = {.type = RTM_GETLINK, .times = 1, .take = take_nothing};
+    struct neli_message message = {0};
+    struct neli_attribute attribute = {0};
+    struct neli_verdict verdict;
+    struct neli_lent lent;
+    struct neli_walk walk = {0};
+    struct ifinfomsg all = {0};
+    uint32_t group = 0;
+    size_t handle, length;
+    char text[NELI_TEXT_SIZE];
+
+    WANT(neli_host_open(NULL, 0, NULL, 0) == NELI_NULL);
+    WANT(neli_host_open(&none, 0, NULL, 1) == NELI_NULL && none == NULL);
+    WANT(neli_host_open(&none, 0, &group, SIZE_MAX) == NELI_NULL && none == NULL);
+    neli_host_close(NULL);
+    WANT(neli_host_fd(NULL) == -1 && neli_host_port(NULL) == 0 && neli_host_fault(NULL) == 0);
+    neli_host_set_wait(NULL, 0);
+    neli_host_set_ends_by_signals(NULL, true);
+    neli_host_set_keeps_unasked(NULL, true);
+    neli_host_stop(NULL);
+    WANT(neli_host_set_strict(NULL) == NELI_NULL);
+    WANT(neli_host_item(NULL) == NULL && neli_host_item_length(NULL) == 0 && neli_host_datagram(NULL) == NULL);
+
+    WANT(neli_host_send(NULL, RTM_GETLINK, 0, &all, sizeof all, &handle) == NELI_NULL);
+    WANT(neli_host_send(host, RTM_GETLINK, 0, NULL, sizeof all, &handle) == NELI_NULL);
+    WANT(neli_host_send(host, RTM_GETLINK, 0, &all, SIZE_MAX, &handle) == NELI_NULL);
+    WANT(neli_host_send(host, RTM_GETLINK, 0, &all, sizeof all, NULL) == NELI_NULL);
+    WANT(neli_host_send_all(host, &request, 1, &handle) == NELI_NULL);
+    request.length = 0;
+    WANT(neli_host_send_all(NULL, &request, 1, &handle) == NELI_NULL);
+    WANT(neli_host_send_all(host, NULL, 1, &handle) == NELI_NULL);
+    WANT(neli_host_send_all(host, &request, 1, NULL) == NELI_NULL);
+    WANT(neli_host_send_all(host, &request, SIZE_MAX, &handle) == NELI_NULL);
+    WANT(neli_host_send_all(host, NULL, 0, NULL) == NELI_OK);
+
+    WANT(neli_host_next(NULL, NELI_MULTICAST, &message) == NELI_NULL);
+    WANT(neli_host_next(host, NELI_MULTICAST, NULL) == NELI_NULL);
+    WANT(neli_host_lend(NULL, NELI_MULTICAST, &lent) == NELI_NULL);
+    WANT(neli_host_lend(host, NELI_MULTICAST, NULL) == NELI_NULL);
+    WANT(neli_host_pass(NULL, NELI_MULTICAST) == NELI_NULL);
+    WANT(neli_host_verdict(NULL, NELI_MULTICAST, &verdict) == NELI_NULL);
+    WANT(neli_host_verdict(host, NELI_MULTICAST, NULL) == NELI_NULL);
+    WANT(neli_host_close_request(NULL, NELI_MULTICAST) == NELI_NULL);
+    WANT(neli_host_receive(NULL, &length, &group) == NELI_NULL);
+    WANT(neli_host_receive(host, NULL, &group) == NELI_NULL && neli_host_receive(host, &length, NULL) == NELI_NULL);
+
+    int32_t (*lists[])(struct neli_host *, const struct neli_dump *, struct neli_message *) = {
+        neli_host_dump,
+        neli_host_resync,
+    };
+    for (int i = 0; i < 2; i++) {
+        struct neli_dump taken_by_none = dump, without_body = dump;
+        taken_by_none.take = NULL;
+        without_body.length = 16;
+        WANT(lists[i](NULL, &dump, &message) == NELI_NULL && lists[i](host, NULL, &message) == NELI_NULL);
+        WANT(lists[i](host, &dump, NULL) == NELI_NULL && lists[i](host, &taken_by_none, &message) == NELI_NULL);
+        WANT(lists[i](host, &without_body, &message) == NELI_NULL);
+    }
+
+    WANT(!neli_host_find(NULL, &walk, 1, &attribute) && !neli_host_find(host, NULL, 1, &attribute));
+    WANT(!neli_host_find(host, &walk, 1, NULL));
+    WANT(neli_host_text(NULL, &attribute) == NULL && neli_host_text(host, NULL) == NULL);
+    neli_host_explain(NULL, NELI_LINK, NULL, text, sizeof text);
+    WANT(strlen(text) > 0 && strcmp(text, "Success") != 0);
+    neli_host_explain(NULL, NELI_KERNEL_ERROR, &message, text, sizeof text);
+    WANT(strlen(text) > 0 && strncmp(text, "code", 4) != 0);
+    text[0] = 0;
+    neli_host_explain(host, NELI_KERNEL_ERROR, NULL, text, sizeof text);
+    WANT(strlen(text) > 0 && strncmp(text, "code", 4) != 0);
+    neli_host_explain(host, NELI_LINK, NULL, NULL, sizeof text);
+
+    /* Nothing was sent, and the host is as it was. */
+    want_loopback(host, send_question(host, 1));
+    neli_host_close(host);
+}
+
 /* Hands in a message to group 1. */
 static void notify(struct neli_router *router, uint16_t type, const void *body, size_t length) {
     static const uint32_t group = 1;
@@ -248,6 +332,7 @@ static const struct test tests[] = {
     {"a_buffer_that_ran_over", a_buffer_that_ran_over},
     {"another_sender_is_passed_over", another_sender_is_passed_over},
     {"nothing_that_is_wrong_crosses", nothing_that_is_wrong_crosses},
+    {"null_pointers_are_refused", null_pointers_are_refused},
     {"listening_goes_on", listening_goes_on},
 };
 
