@@ -158,12 +158,13 @@ size_t neli_host_item_length(const struct neli_host *host);
 bool neli_host_find(const struct neli_host *host, const struct neli_walk *walk, uint16_t number,
                     struct neli_attribute *found);
 
-/* Returns the text of an attribute of the item, which stays as long as the item; NULL if no zero byte ends it. */
+/* Returns the text of an attribute of the item, which stays as long as the item. NULL if no zero byte ends it, or if
+ * its place is not within the item, as that of an attribute of an earlier item may be. */
 const char *neli_host_text(const struct neli_host *host, const struct neli_attribute *attribute);
 
 /* Writes why the kernel refused, after NELI_KERNEL_ERROR: the meaning of its number, its text and its offset, if it
- * sent these; or the meaning of another code. Where `host` or `message` is null it writes the meaning of the code alone.
- * Nothing if `text` is null. */
+ * sent these; or the meaning of another code. Where `host` or `message` is null it writes the meaning of the code
+ * alone. Nothing if `text` is null. */
 void neli_host_explain(const struct neli_host *host, int32_t code, const struct neli_message *message, char *text,
                        size_t room);
 

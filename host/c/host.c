@@ -524,9 +524,10 @@ bool neli_host_find(const struct neli_host *host, const struct neli_walk *walk, 
 }
 
 const char *neli_host_text(const struct neli_host *host, const struct neli_attribute *attribute) {
-    if (host == NULL || attribute == NULL) return NULL;
+    if (host == NULL || attribute == NULL || attribute->payload > host->item_length) return NULL;
     const uint8_t *payload = host->item + attribute->payload;
-    size_t length;
+    size_t length, left = host->item_length - attribute->payload;
+    if (attribute->payload_length > left) return NULL;
     return neli_text_length(payload, attribute->payload_length, &length) == NELI_OK ? (const char *)payload : NULL;
 }
 

@@ -287,6 +287,35 @@ static void null_pointers_are_refused(void) {
     neli_host_close(host);
 }
 
+/* An attribute of an earlier item may lie past the end of the one that was read last. */
+static void a_text_of_an_earlier_item(void) {
+    struct neli_host *host = route_host(false);
+    struct neli_message message;
+    struct neli_attribute name, after_item;
+    struct neli_walk walk;
+    size_t link = send_question(host, 1), refused = send_question(host, 4711);
+    WANT(neli_host_text(host, &(struct neli_attribute){.payload_length = 1}) == NULL);
+    WANT(neli_host_next(host, link, &message) == NELI_ITEM);
+    WANT(neli_attributes_of(&message, sizeof(struct ifinfomsg), &walk) == NELI_OK);
+    WANT(neli_host_find(host, &walk, IFLA_IFNAME, &name));
+    WANT(strcmp(neli_host_text(host, &name), "lo") == 0);
+    after_item = name;
+    after_item.payload = neli_host_item_length(host);
+    WANT(neli_host_text(host, &after_item) == NULL);
+    after_item.payload_length = 0;
+    WANT(neli_host_text(host, &after_item) == NULL);
+    /* The bytes of the link are there still, behind the shorter item. */
+    WANT(neli_host_next(host, refused, &message) == NELI_KERNEL_ERROR);
+    after_item = name;
+    after_item.payload = neli_host_item_length(host) - 1;
+    WANT(neli_host_text(host, &after_item) == NULL);
+    after_item.payload = neli_host_item_length(host) + 1;
+    WANT(neli_host_text(host, &after_item) == NULL);
+    after_item.payload = SIZE_MAX;
+    WANT(neli_host_text(host, &after_item) == NULL);
+    neli_host_close(host);
+}
+
 /* Hands in a message to group 1. */
 static void notify(struct neli_router *router, uint16_t type, const void *body, size_t length) {
     static const uint32_t group = 1;
@@ -333,6 +362,7 @@ static const struct test tests[] = {
     {"another_sender_is_passed_over", another_sender_is_passed_over},
     {"nothing_that_is_wrong_crosses", nothing_that_is_wrong_crosses},
     {"null_pointers_are_refused", null_pointers_are_refused},
+    {"a_text_of_an_earlier_item", a_text_of_an_earlier_item},
     {"listening_goes_on", listening_goes_on},
 };
 
