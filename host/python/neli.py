@@ -16,7 +16,9 @@ the environment names another library than libneli.so.0.
 import ctypes
 import errno
 import os
+import socket
 import struct
+import time
 import weakref
 
 __all__ = [
@@ -43,7 +45,7 @@ GENL_ID_CTRL, CTRL_CMD_GETFAMILY, CTRL_ATTR_FAMILY_ID, CTRL_ATTR_FAMILY_NAME = 1
 
 # neli.h
 OK = END = 0
-ITEM, WAITS, KERNEL_ERROR, INTERRUPTED = 1, 2, 3, 4
+ITEM, WAITS, KERNEL_ERROR, INTERRUPTED, OVERRUN = 1, 2, 3, 4, 5
 SHORT, LENGTH, MEMORY, ROOM, HANDLE, LINK, KIND = -1, -2, -3, -4, -6, -11, -15
 ANSWERING_DUMP, ANSWERING_SILENCE = 0, 3
 MULTICAST = 0
@@ -743,6 +745,26 @@ class _Socket:
                 if not left or not error.is_passing:
                     raise
 
+    def resync(self, *lists, times=5):
+        """The whole state after a loss: drops what came to groups, until nothing is left, and returns the messages of
+        each of these lists. A list is the type of its dump, or that, a body and flags, as `dump` takes them.
+
+        What comes to groups meanwhile and later is newer: read it by `get`, and apply it to the lists. All of it is
+        done again, at most so many times, where `dump` would request a list again; then it raises as `dump` does.
+        """
+        lists = [it if isinstance(it, tuple) else (it,) for it in lists]
+        for it in lists:
+            if not 1 <= len(it) <= 3:
+                raise TypeError(f"each of lists has to be a type, a body and flags, not {len(it)} values")
+        _check_number("times", times)
+        for left in reversed(range(max(1, times))):
+            self._call(self._drop)
+            try:
+                return [self.dump(*it, times=1) for it in lists]
+            except NetlinkError as error:
+                if not left or not error.is_passing:
+                    raise
+
     def get(self):
         """The next message for a group. If some were lost, raises a NetlinkError of ENOBUFS; more messages follow.
 
@@ -777,7 +799,7 @@ class NetlinkSocket(_Socket):
         self._shut()
         at, numbers = ctypes.c_void_p(), (ctypes.c_uint32 * max(1, len(groups)))(*groups)
         code = _lib.neli_host_open(ctypes.byref(at), self.family, numbers, len(groups))
-        self._at = at.value
+        self._at, self._wait = at.value, -1
         if code != OK:
             error = self._error(code)
             self._shut()
@@ -801,7 +823,25 @@ class NetlinkSocket(_Socket):
 
         A ValueError if that is below 0.
         """
-        _lib.neli_host_set_wait(self._opened(), _milliseconds(seconds))
+        wait = _milliseconds(seconds)
+        _lib.neli_host_set_wait(self._opened(), wait)
+        self._wait = wait
+
+    @property
+    def receive_buffer(self):
+        """How many bytes the kernel keeps for the socket (SO_RCVBUF); past that, messages are lost.
+
+        Linux doubles the number that is set, and takes no more than net.core.rmem_max. `bind` opens a socket with the
+        default. A ValueError if the number does not fit 31 bits.
+        """
+        with socket.socket(fileno=os.dup(self.fileno())) as options:
+            return options.getsockopt(socket.SOL_SOCKET, socket.SO_RCVBUF)
+
+    @receive_buffer.setter
+    def receive_buffer(self, size):
+        _fit(31, receive_buffer=size)
+        with socket.socket(fileno=os.dup(self.fileno())) as options:
+            options.setsockopt(socket.SOL_SOCKET, socket.SO_RCVBUF, size)
 
     def set_strict(self):
         """Makes the kernel check all fields of a dump's request: only then can a dump list the objects of one link.
@@ -843,6 +883,28 @@ class NetlinkSocket(_Socket):
             code = call(self._opened(), handle, ctypes.byref(read))
             if code != LINK or _lib.neli_host_fault(self._at) != errno.EINTR:
                 return code
+
+    def _drop(self):
+        """Reads what came to groups, until the socket is empty, within the time of a wait.
+
+        As in host.c eight consecutive faults mean a closed socket.
+        """
+        end, faults, read = time.monotonic() + self._wait / 1000, 0, _Message()
+        try:
+            _lib.neli_host_set_wait(self._opened(), 0)
+            while True:
+                code = self._wait_in(_lib.neli_host_next, MULTICAST, read)
+                fault = _lib.neli_host_fault(self._at) if code == LINK else 0
+                if fault == errno.EAGAIN:
+                    return
+                faults = faults + 1 if fault else 0
+                if code in (MEMORY, HANDLE) or fault == errno.ECANCELED or faults == 8:
+                    raise self._error(code)
+                if 0 <= self._wait and end <= time.monotonic():
+                    raise NetlinkError(errno.EAGAIN, os.strerror(errno.EAGAIN), LINK)
+        finally:
+            if self._at:
+                _lib.neli_host_set_wait(self._at, self._wait)
 
     def _lend_into(self, handle, lent):
         return self._wait_in(_lib.neli_host_lend, handle, lent)

@@ -21,8 +21,8 @@ import struct
 from collections.abc import Mapping
 
 import neli
-from neli import ANSWERING_DUMP, END, ITEM, KERNEL_ERROR, KIND, LINK, MULTICAST, NLM_F_ACK, NLM_F_MULTI
-from neli import NLMSG_MIN_TYPE, OK, ROOM, WAITS
+from neli import ANSWERING_DUMP, END, HANDLE, ITEM, KERNEL_ERROR, KIND, LINK, MEMORY, MULTICAST, NLM_F_ACK
+from neli import NLM_F_MULTI, NLMSG_MIN_TYPE, OK, OVERRUN, ROOM, WAITS
 
 __all__ = ["SimulatedSocket", "Request", "requests", "notification"]
 
@@ -57,6 +57,7 @@ def _library():
         "neli_c_router_free": [pointer],
         "neli_c_router_send_expecting": [pointer, u32, u16, u16, *slice_of, *room],
         "neli_c_router_datagram": [pointer, *slice_of, pointer, size],
+        "neli_c_router_fault": [pointer, i32],
         "neli_c_router_read": [pointer, size, pointer],
         "neli_c_router_lend": [pointer, size, pointer],
         "neli_c_router_pass": [pointer, size],
@@ -218,9 +219,9 @@ def notification(msg_type, body=b"", msg_flags=0, number=0, port=0):
 class SimulatedSocket(neli._Socket):
     """A socket with a kernel of your own: `serve` gives the datagrams of the answer to a Request.
 
-    It never waits, is in all groups, and has no file descriptor. Where nothing is left, a read raises a NetlinkError,
-    whose `status` is WAITS, and its Reply is closed. What `serve` raises, the request raises. A ValueError if the
-    family does not fit 16 bits, or the port 32.
+    It never waits, is in all groups, and has no file descriptor. Where nothing is left, a read raises a NetlinkError of
+    EAGAIN, as that of a socket whose wait has ended. What `serve` raises, the request raises; it may call `deliver` and
+    `fault`. A ValueError if the family does not fit 16 bits, or the port 32.
     """
 
     def __init__(self, serve, family=neli.NETLINK_ROUTE, port=4711):
@@ -228,6 +229,7 @@ class SimulatedSocket(neli._Socket):
             raise neli._wrong("serve", serve, "a function")
         neli._fit(32, port=port)
         self._serve, self._port, self._router, self._is_stopped = serve, port, _Opaque(), False
+        self._receive_buffer = 212992
         super().__init__(family)
 
     port = property(lambda self: self._port)
@@ -237,6 +239,8 @@ class SimulatedSocket(neli._Socket):
         at = ctypes.byref(self._router)
         self._well(_lib.neli_c_router_new(at, self._port))
         self._at, self._is_stopped = at, False
+        # The fault of each open request, or 0; the faults for groups, each with the number of messages before it.
+        self._faults, self._losses, self._came, self._heard, self._fault = {}, [], 0, 0, 0
 
     def _free(self, at):
         _lib.neli_c_router_free(at)
@@ -258,6 +262,18 @@ class SimulatedSocket(neli._Socket):
         """Has reads raise ECANCELED where nothing is left."""
         self._opened()
         self._is_stopped = True
+
+    @property
+    def receive_buffer(self):
+        """A number that has no effect; a ValueError if it does not fit 31 bits."""
+        self._opened()
+        return self._receive_buffer
+
+    @receive_buffer.setter
+    def receive_buffer(self, size):
+        neli._fit(31, receive_buffer=size)
+        self._opened()
+        self._receive_buffer = size
 
     def request(self, msg_type, msg_flags=NLM_F_ACK, body=b""):
         """Sends a request, which `serve` answers, and returns its Reply; refused as that of a NetlinkSocket."""
@@ -292,6 +308,7 @@ class SimulatedSocket(neli._Socket):
         self._well(_lib.neli_c_router_send_expecting(
             self._opened(), self._answering(msg_type, msg_flags, body), msg_type, msg_flags, body, len(body), out,
             len(out), ctypes.byref(sent)))
+        self._faults[sent.handle] = 0
         return neli.Reply(self, sent.handle), out.raw[: sent.length]
 
     def deliver(self, datagram, group=0):
@@ -304,31 +321,80 @@ class SimulatedSocket(neli._Socket):
 
     def _take_in(self, datagram, group):
         self._well(_lib.neli_c_router_datagram(self._opened(), datagram, len(datagram), ctypes.byref(group), 1))
+        walk, read = neli._Walk(0, len(datagram)), neli._Message()
+        while group.value and _lib.neli_c_next_message(
+                datagram, len(datagram), ctypes.byref(walk), ctypes.byref(read)) == ITEM:
+            self._came += 1
+
+    def fault(self, number):
+        """Has a fault of the socket come, by its number in errno.h, as ENOBUFS where messages are lost.
+
+        Each open request ends with it, and `get` raises it once, behind the messages that came before. A ValueError if
+        it is not above 0, does not fit 31 bits, or is EAGAIN, which loses nothing; a NetlinkError if memory runs out.
+        """
+        neli._fit(31, number=number)
+        if number in (0, errno.EAGAIN):
+            raise ValueError(f"number: {number} is no fault")
+        self._call(self._lose, number)
+
+    def _lose(self, number):
+        self._well(_lib.neli_c_router_fault(self._opened(), number))
+        self._faults = {handle: fault or number for handle, fault in self._faults.items()}
+        self._losses = [it for it in self._losses if it[0] < self._came] + [(self._came, number)]
+
+    def _fault_for_groups(self):
+        """Whether a fault is next for groups, which is then `_fault`."""
+        if not self._losses or self._losses[0][0] > self._heard:
+            return False
+        self._fault = self._losses.pop(0)[1]
+        return True
+
+    def _listen(self, item):
+        """The next message for groups; their faults are in `_losses`, each in its place."""
+        code = LINK
+        while code in (LINK, OVERRUN):
+            code = _lib.neli_c_router_listen(self._opened(), ctypes.byref(item))
+        self._heard += code not in (WAITS, MEMORY, HANDLE)
+        return code
+
+    def _drop(self):
+        self._losses.clear()
+        code = ITEM
+        while code != WAITS:
+            code, _ = self._next(MULTICAST)
+            if code in (MEMORY, HANDLE):
+                raise self._error(code)
+        if self._is_stopped:
+            raise self._error(WAITS)
 
     def _verdict(self, handle, said):
         return _lib.neli_c_router_verdict(self._opened(), handle, said)
 
     def _close_request(self, handle):
+        self._faults.pop(handle, None)
         _lib.neli_c_router_give_up(self._opened(), handle)
 
     def _lend_into(self, handle, lent):
         """An error message to groups is an item as any other."""
-        lent.bytes = ctypes.addressof(_NO_BYTES)
+        if handle == MULTICAST and self._fault_for_groups():
+            return LINK
+        lent.bytes, self._fault = ctypes.addressof(_NO_BYTES), self._faults.get(handle, 0)
         code = _lib.neli_c_router_lend(self._opened(), handle, ctypes.byref(lent))
         return ITEM if handle == MULTICAST and code == KERNEL_ERROR else code
 
     def _pass(self, handle):
         """Goes on; with multicast as a listener, whom no error ends."""
         if handle == MULTICAST:
-            _lib.neli_c_router_listen(self._at, ctypes.byref(_Item()))
+            self._listen(_Item())
         else:
             _lib.neli_c_router_pass(self._at, handle)
 
     def _next(self, handle):
-        item, read, self._said = _Item(), neli._Message(), None
-        words = [ctypes.byref(item)] if handle == MULTICAST else [handle, ctypes.byref(item)]
-        read_one = _lib.neli_c_router_listen if handle == MULTICAST else _lib.neli_c_router_read
-        code = read_one(self._opened(), *words)
+        item, read, self._said, self._fault = _Item(), neli._Message(), None, self._faults.get(handle, 0)
+        if handle != MULTICAST:
+            code = _lib.neli_c_router_read(self._opened(), handle, ctypes.byref(item))
+        else:
+            code = LINK if self._fault_for_groups() else self._listen(item)
         if code in (ITEM, KERNEL_ERROR):
             data = _made(_lib.neli_c_router_item, self._at)
             _lib.neli_c_next_message(data, len(data), ctypes.byref(neli._Walk(0, len(data))), ctypes.byref(read))
@@ -337,8 +403,10 @@ class SimulatedSocket(neli._Socket):
 
     def _error(self, code, number=0):
         attributes = []
-        if code == WAITS and self._is_stopped:
-            code, number = LINK, errno.ECANCELED
+        if code == LINK:
+            number = number or self._fault
+        elif code == WAITS:
+            code, number = LINK, errno.ECANCELED if self._is_stopped else errno.EAGAIN
         if code == KERNEL_ERROR and self._said:
             answered, attributes = neli._answer_of(self._said)
             number = -answered
