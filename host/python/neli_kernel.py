@@ -10,7 +10,7 @@ the proved library, as bytes, and each is given to its request by its router.
             return [request.error(-95, {1: "Unknown device type"})]
         return request.dump([{"type": neli.RTM_NEWLINK, "body": bytes(16) + neli.nla(neli.IFLA_IFNAME, "lo")}])
     with SimulatedSocket(serve) as sock:
-        assert [it.get_attr(neli.IFLA_IFNAME).text() for it in sock.dump(neli.RTM_GETLINK, bytes(16))] == ["lo"]
+        assert [it.get_attr(neli.IFLA_IFNAME).text() for it in sock.dump(neli.RTM_GETLINK)] == ["lo"]
 """
 
 import ctypes

@@ -6,7 +6,7 @@ with the library; a dictionary is `json.loads` of that (docs/SHOW.md).
     import neli
     from neli_schema import Schema
     with Schema() as schema, neli.NetlinkSocket(neli.NETLINK_ROUTE) as sock:
-        for link in sock.dump(neli.RTM_GETLINK, bytes(16)):
+        for link in sock.dump(neli.RTM_GETLINK):
             print(schema.values(link)["IFLA_IFNAME"], schema.to_dict(link)["attributes"])
 """
 
