@@ -9,8 +9,8 @@ C layer, which this file calls by ctypes. It needs Python 3.8 and nothing else.
             print(link.get_attr(neli.IFLA_IFNAME).text(), link.get_attr(neli.IFLA_MTU).u32())
 
 Calls have pyroute2's names where it has the same: NetlinkSocket, NetlinkError with `code`, `bind`, `get`, `get_attr`,
-`nlm_request`. Attributes have numbers here, as IFLA_IFNAME; a Schema of neli_schema has them by name. NELI_LIBRARY in
-the environment names another library than libneli.so.0.
+`nlm_request`. Attributes have numbers here, as IFLA_IFNAME; a Schema of neli_schema has them by name. An argument of
+another type is a TypeError, which names it. NELI_LIBRARY in the environment names another library than libneli.so.0.
 """
 
 import ctypes
@@ -791,8 +791,9 @@ def _milliseconds(seconds):
 class NetlinkSocket(_Socket):
     """A socket of a netlink family, in these multicast groups, which delivers each reply to its request.
 
-    A NetlinkError if the system refuses the socket or a group. Once it is closed, each call but `bind` and `close`
-    raises a ValueError. During a call only `stop` may be called: one that reads, sends or closes raises a RuntimeError.
+    A NetlinkError if the system refuses the socket or a group; a ValueError if the family does not fit 16 bits, or a
+    group 32. Once it is closed, each call but `bind` and `close` raises a ValueError. During a call only `stop` may be
+    called: one that reads, sends or closes raises a RuntimeError.
     """
 
     def _open(self, groups):
