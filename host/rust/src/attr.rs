@@ -8,8 +8,10 @@ use std::marker::PhantomData;
 
 /// The flag of a type field for a payload that lists attributes.
 const NESTED: u16 = 0x8000;
+/// The flag of a type field for a payload in network order.
+const NETWORK_ORDER: u16 = 0x4000;
 /// Both flags of a type field.
-const FLAGS: u16 = 0xc000;
+const FLAGS: u16 = NESTED | NETWORK_ORDER;
 
 /// The number of attributes that one call reads.
 const AT_ONCE: usize = 16;
@@ -216,10 +218,11 @@ fn handle_in<'a, A: Attribute>(payload: &[u8]) -> Result<AttrHandle<'a, A>, DeEr
     Ok(AttrHandle { attributes: Held::Owned(attributes) })
 }
 
-/// An attribute of routing. Its type is a number without flags.
+/// An attribute of routing. Its type is a number; the two flags of the type field are beside it.
 #[derive(Clone, Debug, PartialEq, Eq)]
 pub struct Rtattr<T, P = Buffer> {
     rta_type: T,
+    flags: u16,
     payload: Vec<u8>,
     of: PhantomData<P>,
 }
@@ -228,11 +231,11 @@ impl<T: AttrNumber> Attribute for Rtattr<T> {
     type Number = T;
 
     fn of_field(field: u16, payload: &[u8]) -> Self {
-        Rtattr { rta_type: T::from(field & !FLAGS), payload: payload.to_vec(), of: PhantomData }
+        Rtattr { rta_type: T::from(field & !FLAGS), flags: field & FLAGS, payload: payload.to_vec(), of: PhantomData }
     }
 
     fn field(&self) -> u16 {
-        self.rta_type.into()
+        self.rta_type.into() | self.flags
     }
 
     fn payload(&self) -> &[u8] {
@@ -246,12 +249,22 @@ impl<T: AttrNumber> Rtattr<T> {
         &self.rta_type
     }
 
+    /// Whether it is marked as nested, by `NLA_F_NESTED`.
+    pub fn rta_nested(&self) -> bool {
+        self.flags & NESTED != 0
+    }
+
+    /// Whether its payload is marked as in network order, by `NLA_F_NET_BYTEORDER`.
+    pub fn rta_network_order(&self) -> bool {
+        self.flags & NETWORK_ORDER != 0
+    }
+
     /// The payload.
     pub fn rta_payload(&self) -> &[u8] {
         &self.payload
     }
 
-    /// The attribute with another one appended to its payload. Refused as [`SerError::Refused`] if the payload of that
+    /// The attribute with another one appended to its payload, and its flags as they were. Refused as [`SerError::Refused`] if the payload of that
     /// one has more than 65531 bytes.
     pub fn nest<S: AttrNumber>(mut self, attribute: &Rtattr<S>) -> Result<Self, SerError> {
         put(&mut self.payload, attribute.field(), attribute.payload())?;
@@ -343,7 +356,7 @@ impl<T: AttrNumber> Attribute for Nlattr<T> {
     fn of_field(field: u16, payload: &[u8]) -> Self {
         let nla_type = AttrType {
             nla_nested: field & NESTED != 0,
-            nla_network_order: field & FLAGS & !NESTED != 0,
+            nla_network_order: field & NETWORK_ORDER != 0,
             nla_type: T::from(field & !FLAGS),
         };
         Nlattr { nla_type, payload: payload.to_vec(), of: PhantomData }
@@ -351,7 +364,7 @@ impl<T: AttrNumber> Attribute for Nlattr<T> {
 
     fn field(&self) -> u16 {
         let AttrType { nla_nested, nla_network_order, nla_type } = self.nla_type;
-        nla_type.into() | if nla_nested { NESTED } else { 0 } | if nla_network_order { FLAGS & !NESTED } else { 0 }
+        nla_type.into() | if nla_nested { NESTED } else { 0 } | if nla_network_order { NETWORK_ORDER } else { 0 }
     }
 
     fn payload(&self) -> &[u8] {
@@ -388,12 +401,13 @@ impl<T: AttrNumber> Nlattr<T> {
 #[derive(Clone, Debug)]
 pub struct RtattrBuilder<T, P> {
     rta_type: Option<T>,
+    flags: u16,
     rta_payload: Option<P>,
 }
 
 impl<T, P> Default for RtattrBuilder<T, P> {
     fn default() -> Self {
-        RtattrBuilder { rta_type: None, rta_payload: None }
+        RtattrBuilder { rta_type: None, flags: 0, rta_payload: None }
     }
 }
 
@@ -401,6 +415,13 @@ impl<T: AttrNumber, P: ToBytes> RtattrBuilder<T, P> {
     /// The number of its kind.
     pub fn rta_type(mut self, number: T) -> Self {
         self.rta_type = Some(number);
+        self
+    }
+
+    /// Whether it is marked as nested, by `NLA_F_NESTED`, as Linux requires it of newer attributes; it is not, if this
+    /// is not given.
+    pub fn rta_nested(mut self, is_nested: bool) -> Self {
+        self.flags = self.flags & !NESTED | if is_nested { NESTED } else { 0 };
         self
     }
 
@@ -415,7 +436,7 @@ impl<T: AttrNumber, P: ToBytes> RtattrBuilder<T, P> {
     pub fn build(self) -> Result<Rtattr<T>, BuildError> {
         let rta_type = self.rta_type.ok_or(UninitializedFieldError("rta_type"))?;
         let payload = self.rta_payload.ok_or(UninitializedFieldError("rta_payload"))?;
-        Ok(Rtattr { rta_type, payload: bytes_of(&payload)?, of: PhantomData })
+        Ok(Rtattr { rta_type, flags: self.flags, payload: bytes_of(&payload)?, of: PhantomData })
     }
 }
 

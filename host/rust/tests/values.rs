@@ -52,6 +52,25 @@ fn a_link_is_written_and_read() {
 }
 
 #[test]
+fn the_flags_of_a_type_field_are_kept() {
+    let other = RtattrBuilder::default().rta_type(Ifla::AltIfname).rta_payload("b").build().expect("a name");
+    let list = RtattrBuilder::default().rta_type(Ifla::PropList).rta_nested(true).rta_payload(()).build();
+    let list = list.expect("a list").nest(&other).expect("nested");
+    assert_eq!((list.rta_nested(), other.rta_nested(), *list.rta_type()), (true, false, Ifla::PropList));
+    let marked = [12, 0, 52, 0x80, 6, 0, 53, 0, b'b', 0, 0, 0];
+    let attributes: RtBuffer<Ifla> = [list].into_iter().collect();
+    assert_eq!(written(&attributes), marked);
+    let bytes = [&marked[..], &[8, 0, 4, 0x40, 0, 0, 5, 0xdc]].concat();
+    let read = RtBuffer::<Ifla>::from_bytes(&bytes).expect("is read");
+    assert_eq!(written(&read), bytes);
+    let handle = read.get_attr_handle();
+    let number = handle.get_attribute(Ifla::Mtu).expect("it is found by its number");
+    assert_eq!((number.rta_nested(), number.rta_network_order()), (false, true));
+    let names = handle.get_nested_attributes::<Ifla>(Ifla::PropList).expect("a nested list");
+    assert_eq!(names.get_attr_payload_as_with_len::<String>(Ifla::AltIfname).expect("a name"), "b");
+}
+
+#[test]
 fn bytes_that_lie_are_refused() {
     let refused = |bytes: &[u8]| Ifinfomsg::from_bytes(bytes).expect_err("is refused");
     assert_eq!(refused(&[0; 15]), DeError::InvalidInput(15));

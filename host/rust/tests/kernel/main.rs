@@ -163,6 +163,33 @@ fn a_refusal_has_a_text_and_an_offset() {
     });
 }
 
+/// The loopback link with another name, in a list that is marked as nested or not.
+fn other_name(is_nested: bool) -> Ifinfomsg {
+    let text = RtattrBuilder::default().rta_type(Ifla::AltIfname).rta_payload("other").build().expect("a name");
+    let list = RtattrBuilder::default().rta_type(Ifla::PropList).rta_nested(is_nested).rta_payload(()).build();
+    let list = list.expect("a list").nest(&text).expect("a name in a list");
+    link(1).rtattrs([list].into_iter().collect()).build().expect("a link")
+}
+
+/// `RTM_NEWLINKPROP` of `linux/rtnetlink.h`, which needs the mark, and makes a link's other name.
+#[test]
+fn a_link_gets_another_name_by_a_nested_attribute() {
+    const NEWLINKPROP: Rtm = Rtm::UnrecognizedConst(108);
+    alone(|| {
+        let (router, _) = router(&[]);
+        let made = |body| ask(&router, NEWLINKPROP, NlmF::CREATE | NlmF::EXCL, body);
+        assert_eq!(made(other_name(false)).expect_err("no list is marked").errno(), Some(EINVAL));
+        made(other_name(true)).expect("the link gets another name");
+        let reply = asked(&router, 1).next().expect("a reply").expect("the link");
+        let body = reply.get_payload().expect("a body");
+        let handle = body.rtattrs().get_attr_handle();
+        let list = handle.get_attribute(Ifla::PropList).expect("the list");
+        assert!(list.rta_nested());
+        let names = list.get_attr_handle::<Ifla>().expect("names");
+        assert_eq!(names.get_attr_payload_as_with_len::<String>(Ifla::AltIfname).expect("a name"), "other");
+    });
+}
+
 #[test]
 fn a_notification_comes_while_a_dump_runs() {
     alone(|| {
