@@ -319,17 +319,7 @@ impl Router {
         // SAFETY: the router is open, and borrowed exclusively; each pointer and its length are those of one slice, and
         // that of `out` is exclusive, so they are apart.
         unsafe {
-            neli_c_router_send_expecting(
-                self.raw(),
-                answering,
-                kind,
-                flags,
-                body,
-                length,
-                out.as_mut_ptr(),
-                room,
-                sent,
-            )
+            neli_c_router_send_expecting(self.raw(), answering, kind, flags, body, length, out.as_mut_ptr(), room, sent)
         }
     }
 
