@@ -2,6 +2,8 @@
 //!
 //! A number without a name is kept as it is: of an enum as `UnrecognizedConst`, of a set of flags as its bits.
 
+use crate::ffi;
+
 /// An enum over the numbers of one table. The second list has further names of numbers of the first.
 macro_rules! numbers {
     ($name:ident: $kind:ty { $($variant:ident = $number:literal,)* } { $($other:ident = $same:literal,)* }) => {
@@ -103,3 +105,12 @@ macro_rules! flags {
 }
 
 include!(concat!(env!("OUT_DIR"), "/consts.rs"));
+
+/// What Linux 6.1 added. These are no variants, so that a `match` on `UnrecognizedConst` stays whole.
+#[allow(non_upper_case_globals)]
+impl nl::NlmsgerrAttr {
+    /// `NLMSGERR_ATTR_MISS_TYPE`: the number of an attribute that the request lacks.
+    pub const MissType: Self = Self::of(ffi::ANSWER_MISSING);
+    /// `NLMSGERR_ATTR_MISS_NEST`: the place in the request of the nest that lacks it.
+    pub const MissNest: Self = Self::of(ffi::ANSWER_MISSING_NEST);
+}

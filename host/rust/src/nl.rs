@@ -116,12 +116,12 @@ impl<T> Nlmsgerr<T> {
 
     /// The number of an attribute that the request lacks.
     pub fn missing_type(&self) -> Option<u32> {
-        self.ext_ack().get_attr_payload_as(NlmsgerrAttr::from(ffi::ANSWER_MISSING)).ok()
+        self.ext_ack().get_attr_payload_as(NlmsgerrAttr::MissType).ok()
     }
 
     /// The place of the nest in the request that lacks it, in bytes; `None` where the message itself does.
     pub fn missing_nest(&self) -> Option<u32> {
-        self.ext_ack().get_attr_payload_as(NlmsgerrAttr::from(ffi::ANSWER_MISSING_NEST)).ok()
+        self.ext_ack().get_attr_payload_as(NlmsgerrAttr::MissNest).ok()
     }
 
     fn with_number(self) -> Nlmsgerr<u16>

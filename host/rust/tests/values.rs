@@ -3,7 +3,7 @@
 use neli::connector::{CnMsg, CnMsgBuilder};
 use neli::consts::connector::{CnMsgIdx, CnMsgVal};
 use neli::consts::genl::{CtrlAttr, CtrlCmd};
-use neli::consts::nl::{NlmF, Nlmsg};
+use neli::consts::nl::{NlmF, Nlmsg, NlmsgerrAttr};
 use neli::consts::rtnl::{Frattr, Iff, Ifla, IflaInfo, RtAddrFamily, Rtm};
 use neli::err::{DeError, Refusal, RouterError, SocketError};
 use neli::genl::{AttrTypeBuilder, Genlmsghdr, GenlmsghdrBuilder, NlattrBuilder};
@@ -127,6 +127,9 @@ fn a_field_that_is_missing_is_named() {
 fn numbers_have_names() {
     assert_eq!((Rtm::from(16), u16::from(Rtm::Getlink)), (Rtm::Newlink, 18));
     assert_eq!((Rtm::from(15), u16::from(Rtm::from(15))), (Rtm::UnrecognizedConst(15), 15));
+    assert_eq!((u16::from(NlmsgerrAttr::MissType), u16::from(NlmsgerrAttr::MissNest)), (5, 6));
+    assert!(matches!(NlmsgerrAttr::from(5), NlmsgerrAttr::MissType | NlmsgerrAttr::MissNest));
+    assert_eq!(NlmsgerrAttr::MissType, NlmsgerrAttr::UnrecognizedConst(5));
     assert_eq!((u16::from(Nlmsg::Done), u16::from(Frattr::Ifname)), (3, 3));
     assert_eq!((NlmF::DUMP.bits(), (NlmF::ROOT | NlmF::MATCH)), (0x300, NlmF::DUMP));
     assert!(NlmF::from_bits_retain(0x8301).contains(NlmF::DUMP | NlmF::REQUEST));
