@@ -157,6 +157,14 @@ impl RouterError {
             _ => None,
         }
     }
+
+    /// The name of that number, as `ENODEV`; `None` where it has none.
+    pub fn errno_name(&self) -> Option<&'static str> {
+        match self {
+            RouterError::Nlmsgerr(answer) => answer.errno_name(),
+            _ => None,
+        }
+    }
 }
 
 impl fmt::Display for DeError {

@@ -3,6 +3,7 @@
 use crate::attr::{AttrHandle, AttrList, Nlattr};
 use crate::consts::nl::{NlmF, NlmsgerrAttr};
 use crate::err::{BuildError, DeError, SerError, UninitializedFieldError, done, refused};
+use crate::errno;
 use crate::ffi;
 use crate::{FromBytes, ToBytes};
 use std::fmt;
@@ -92,6 +93,11 @@ impl<T> Nlmsgerr<T> {
     /// 0, or an error number of Linux, negated.
     pub fn error(&self) -> i32 {
         self.error
+    }
+
+    /// The name of the error number, as `ENODEV`; `None` of 0, and of a number without a name.
+    pub fn errno_name(&self) -> Option<&'static str> {
+        errno::name(self.error.checked_neg()?)
     }
 
     /// The header of the request.
@@ -418,12 +424,15 @@ mod tests {
 
     #[test]
     fn an_error_may_have_any_code() {
-        for (code, number) in [(-19, Some(19)), (19, None), (i32::MIN, None)] {
+        let named = [(-19, Some(19), Some("ENODEV")), (-524, Some(524), Some("ENOTSUPP")), (-4095, Some(4095), None)];
+        let others = [(-5000, Some(5000), None), (19, None, None), (i32::MIN, None, None)];
+        for (code, number, name) in named.into_iter().chain(others) {
             let words = [36, 2, 0, 0, code as u32, 16, 16, 0, 0];
             let bytes: Vec<u8> = words.iter().flat_map(|it| it.to_ne_bytes()).collect();
             let answer = Nlmsghdr::<u16, Buffer>::of_bytes(&bytes).expect("is read").into_err().expect("is an error");
+            assert_eq!(answer.errno_name(), name);
             let error = RouterError::Nlmsgerr(answer);
-            assert_eq!(error.errno(), number);
+            assert_eq!((error.errno(), error.errno_name()), (number, name));
             assert!(!error.to_string().is_empty());
         }
     }

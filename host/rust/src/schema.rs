@@ -27,6 +27,7 @@
 
 use crate::consts::socket::NlFamily;
 use crate::err::{DeError, Refusal, done, refused};
+use crate::errno;
 use crate::ffi;
 use crate::ffi::tables::{Named, Sought, Tables};
 use crate::nl::Nlmsgerr;
@@ -89,6 +90,11 @@ impl KernelRefusal {
     /// The number of the error, as 22 for `EINVAL`.
     pub fn errno(&self) -> i32 {
         self.errno
+    }
+
+    /// The name of that number, as `EINVAL`; `None` where it has none.
+    pub fn errno_name(&self) -> Option<&'static str> {
+        errno::name(self.errno)
     }
 
     /// The path of the attribute that the kernel refuses, where it says which and the tables know it.

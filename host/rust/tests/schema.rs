@@ -125,6 +125,7 @@ fn a_refusal_names_the_attribute() -> Result<(), Box<dyn Error>> {
     let mut replies = router.send::<_, _, Rtm, Buffer>(Rtm::Newlink, NlmF::ACK | NlmF::CREATE, body)?;
     let Some(Err(RouterError::Nlmsgerr(answer))) = replies.next() else { panic!("it is refused") };
     let refusal = schema.message(NlFamily::Route, &sent)?.refusal(&answer);
+    assert_eq!((answer.errno_name(), refusal.errno_name()), (Some("EOPNOTSUPP"), Some("EOPNOTSUPP")));
     assert_eq!((refusal.errno(), refusal.attribute()), (95, Some("IFLA_LINKINFO.IFLA_INFO_KIND")));
     let line = "EOPNOTSUPP: Operation not supported: Unknown device type: IFLA_LINKINFO.IFLA_INFO_KIND";
     assert_eq!(refusal.to_string(), line);
