@@ -388,10 +388,19 @@ impl<T, P: ToBytes> NlPayload<T, P> {
     }
 }
 
+/// The bytes of a message with this header and this body, with its padding.
+pub(crate) fn message_with(head: &ffi::Message, body: &[u8]) -> Result<Vec<u8>, SerError> {
+    let mut out = vec![0; 16 + body.len().next_multiple_of(4)];
+    let mut writer = ffi::Writer::default();
+    done(ffi::begin_message(&mut out, &mut writer, head))?;
+    done(ffi::put_bytes(&mut out, &mut writer, body))?;
+    done(ffi::end_message(&mut out, &writer))?;
+    Ok(out)
+}
+
 impl<T: NlType, P: ToBytes> Nlmsghdr<T, P> {
     /// The bytes of the message, with its padding.
     pub(crate) fn to_message(&self) -> Result<Vec<u8>, SerError> {
-        let body = self.nl_payload.body()?;
         let head = ffi::Message {
             kind: self.nl_type.into(),
             flags: self.nl_flags.bits(),
@@ -399,12 +408,7 @@ impl<T: NlType, P: ToBytes> Nlmsghdr<T, P> {
             port: self.nl_pid,
             ..ffi::Message::default()
         };
-        let mut out = vec![0; 16 + body.len().next_multiple_of(4)];
-        let mut writer = ffi::Writer::default();
-        done(ffi::begin_message(&mut out, &mut writer, &head))?;
-        done(ffi::put_bytes(&mut out, &mut writer, &body))?;
-        done(ffi::end_message(&mut out, &writer))?;
-        Ok(out)
+        message_with(&head, &self.nl_payload.body()?)
     }
 }
 

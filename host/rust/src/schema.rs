@@ -25,12 +25,14 @@
 //! # }
 //! ```
 
+use crate::ToBytes;
+use crate::consts::nl::NlmF;
 use crate::consts::socket::NlFamily;
-use crate::err::{DeError, Refusal, done, refused};
+use crate::err::{DeError, Refusal, SerError, done, refused};
 use crate::errno;
 use crate::ffi;
 use crate::ffi::tables::{Named, Sought, Tables};
-use crate::nl::Nlmsgerr;
+use crate::nl::{NlType, Nlmsgerr, Nlmsghdr, message_with};
 use std::error::Error;
 use std::fmt;
 use std::sync::{Mutex, MutexGuard, PoisonError};
@@ -186,6 +188,58 @@ impl Schema {
         self.messages(family, bytes).next().unwrap_or(Err(Refusal::SHORT.into()))
     }
 
+    /// A message of a program, written, so that [`Written::message`] is it by the tables. Of one without a body, as an
+    /// error, only the header is written. Refused as [`ToBytes::to_bytes`] refuses the body.
+    pub fn write<T: NlType, P: ToBytes>(
+        &self,
+        family: NlFamily,
+        message: &Nlmsghdr<T, P>,
+    ) -> Result<Written<'_>, SerError> {
+        self.of_bytes(family, message.to_message()?)
+    }
+
+    fn of_bytes(&self, family: NlFamily, bytes: Vec<u8>) -> Result<Written<'_>, SerError> {
+        let (mut walk, mut head) = (ffi::Walk { place: 0, end: bytes.len() }, ffi::Message::default());
+        match ffi::next_message(&bytes, &mut walk, &mut head) {
+            ffi::ITEM => Ok(Written { schema: self, protocol: protocol_of(family), bytes, head }),
+            code => Err(refused(code).into()),
+        }
+    }
+
+    /// The request that a router sends for this type, these flags and this body, with the number and the port 0.
+    /// Refused as [`ToBytes::to_bytes`] refuses the body.
+    ///
+    /// ```
+    /// use neli::consts::nl::NlmF;
+    /// use neli::consts::rtnl::{Ifla, RtAddrFamily, Rtm};
+    /// use neli::consts::socket::NlFamily;
+    /// use neli::rtnl::{IfinfomsgBuilder, RtattrBuilder};
+    /// use neli::schema::Schema;
+    ///
+    /// # fn main() -> Result<(), Box<dyn std::error::Error>> {
+    /// let mtu = RtattrBuilder::default().rta_type(Ifla::Mtu).rta_payload(1500u16).build()?;
+    /// let link = IfinfomsgBuilder::default().ifi_family(RtAddrFamily::Unspecified).ifi_index(1);
+    /// let body = link.rtattrs([mtu].into_iter().collect()).build()?;
+    /// let schema = Schema::built_in()?;
+    /// let request = schema.write_request(NlFamily::Route, Rtm::Setlink, NlmF::ACK, &body)?;
+    /// assert!(request.message().check().is_err(), "an MTU has four bytes");
+    /// # Ok(())
+    /// # }
+    /// ```
+    pub fn write_request<T: NlType, P: ToBytes>(
+        &self,
+        family: NlFamily,
+        nl_type: T,
+        flags: NlmF,
+        body: &P,
+    ) -> Result<Written<'_>, SerError> {
+        let mut payload = Vec::new();
+        body.to_bytes(&mut payload)?;
+        let flags = (flags | NlmF::REQUEST).bits();
+        let head = ffi::Message { kind: nl_type.into(), flags, ..ffi::Message::default() };
+        self.of_bytes(family, message_with(&head, &payload)?)
+    }
+
     /// The messages of a datagram as lines of JSON, and one more for the fault behind them, if there is one. Refused
     /// only as [`Refusal::LENGTH`] if these have more bytes than a `usize` counts.
     pub fn datagram_json(&self, family: NlFamily, datagram: &[u8]) -> Result<String, Refusal> {
@@ -208,6 +262,30 @@ fn protocol_of(family: NlFamily) -> u16 {
 fn whole((code, text): (i32, String)) -> Result<String, Refusal> {
     done(code)?;
     Ok(text)
+}
+
+/// The bytes of a program's message, for the tables of a [`Schema`].
+#[derive(Clone, Debug)]
+pub struct Written<'s> {
+    schema: &'s Schema,
+    protocol: u16,
+    bytes: Vec<u8>,
+    head: ffi::Message,
+}
+
+impl Written<'_> {
+    /// The message.
+    #[must_use]
+    pub fn message(&self) -> Message<'_> {
+        let sought = Sought { protocol: self.protocol, bytes: &self.bytes, message: self.head };
+        Message { schema: self.schema, sought }
+    }
+
+    /// Its bytes, with its padding.
+    #[must_use]
+    pub fn as_bytes(&self) -> &[u8] {
+        &self.bytes
+    }
 }
 
 /// The messages of a datagram, in order.

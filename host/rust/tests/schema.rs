@@ -5,10 +5,10 @@ use neli::ToBytes;
 use neli::consts::nl::NlmF;
 use neli::consts::rtnl::{Ifla, IflaInfo, RtAddrFamily, Rtm};
 use neli::consts::socket::NlFamily;
-use neli::err::RouterError;
+use neli::err::{Refusal, RouterError, SerError};
 use neli::nl::{NlPayload, NlmsghdrBuilder};
 use neli::router::synchronous::NlRouter;
-use neli::rtnl::{Ifinfomsg, IfinfomsgBuilder};
+use neli::rtnl::{Ifinfomsg, IfinfomsgBuilder, RtattrBuilder};
 use neli::schema::{Kind, Schema, SchemaError};
 use neli::simulator::{Kernel, Request};
 use neli::types::Buffer;
@@ -170,10 +170,35 @@ fn threads_share_a_schema() -> Result<(), Box<dyn Error>> {
 fn a_body_is_read_by_name() -> Result<(), Box<dyn Error>> {
     let schema = Schema::built_in()?;
     let body: Ifinfomsg = IfinfomsgBuilder::default().ifi_family(RtAddrFamily::Unspecified).ifi_index(7).build()?;
-    let message = NlmsghdrBuilder::default().nl_type(Rtm::Newlink).nl_payload(NlPayload::Payload(body)).build()?;
+    let request = schema.write_request(NlFamily::Route, Rtm::Newlink, NlmF::ACK, &body)?;
+    let json = request.message().to_json()?;
+    assert!(json.contains("\"ifi_index\":7"), "{json}");
+    let message = NlmsghdrBuilder::default()
+        .nl_type(Rtm::Newlink)
+        .nl_flags(NlmF::ACK | NlmF::REQUEST)
+        .nl_payload(NlPayload::Payload(body))
+        .build()?;
     let mut bytes = Vec::new();
     message.to_bytes(&mut bytes)?;
-    let json = schema.message(NlFamily::Route, &bytes)?.to_json()?;
-    assert!(json.contains("\"ifi_index\":7"), "{json}");
+    assert_eq!(schema.message(NlFamily::Route, &bytes)?.to_json()?, json);
+    let written = schema.write(NlFamily::Route, &message)?;
+    assert_eq!((written.as_bytes(), request.as_bytes()), (&bytes[..], &bytes[..]));
+    assert_eq!(written.message().to_json()?, json);
+    Ok(())
+}
+
+/// A body is written for its check; one that cannot be written is refused.
+#[test]
+fn a_body_is_checked_before_it_is_sent() -> Result<(), Box<dyn Error>> {
+    let schema = Schema::built_in()?;
+    let body = Buffer::from(link(b"\xdc\x05"));
+    let request = schema.write_request(NlFamily::Route, Rtm::Newlink, NlmF::CREATE, &body)?;
+    let violation = request.message().check().expect_err("an MTU has four bytes");
+    assert!(violation.to_string().starts_with("IFLA_MTU: "), "{violation}");
+    let long = RtattrBuilder::default().rta_type(Ifla::Linkinfo).rta_payload(vec![0; 65532]).build()?;
+    let body = IfinfomsgBuilder::default().ifi_family(RtAddrFamily::Unspecified);
+    let body = body.rtattrs([long].into_iter().collect()).build()?;
+    let refusal = schema.write_request(NlFamily::Route, Rtm::Newlink, NlmF::CREATE, &body).err();
+    assert_eq!(refusal, Some(SerError::Refused(Refusal::LENGTH)));
     Ok(())
 }
