@@ -1,7 +1,9 @@
-//! Bodies of routing: links, addresses and routes, with their builders.
+//! Bodies of routing: links, addresses, routes and neighbours, with their builders.
 
 use crate::attr::RtBuffer;
-use crate::consts::rtnl::{Arphrd, Ifa, IfaF, Iff, Ifla, RtAddrFamily, RtScope, RtTable, Rta, RtmF, Rtn, Rtprot};
+use crate::consts::rtnl::{
+    Arphrd, Ifa, IfaF, Iff, Ifla, Nda, Ntf, Nud, RtAddrFamily, RtScope, RtTable, Rta, RtmF, Rtn, Rtprot,
+};
 use crate::err::{BuildError, DeError, SerError, UninitializedFieldError};
 use crate::types::Buffer;
 use crate::{Fields, FromBytes, ToBytes};
@@ -98,41 +100,24 @@ macro_rules! body {
     };
 }
 
-impl From<Iff> for u32 {
-    fn from(flags: Iff) -> u32 {
-        flags.bits()
-    }
+/// `From` both ways between sets of flags and their bits.
+macro_rules! sets {
+    ($($set:ident as $number:ty),*) => {
+        $(impl From<$set> for $number {
+            fn from(flags: $set) -> $number {
+                flags.bits()
+            }
+        }
+
+        impl From<$number> for $set {
+            fn from(bits: $number) -> $set {
+                $set::from_bits_retain(bits)
+            }
+        })*
+    };
 }
 
-impl From<u32> for Iff {
-    fn from(bits: u32) -> Iff {
-        Iff::from_bits_retain(bits)
-    }
-}
-
-impl From<IfaF> for u8 {
-    fn from(flags: IfaF) -> u8 {
-        flags.bits()
-    }
-}
-
-impl From<u8> for IfaF {
-    fn from(bits: u8) -> IfaF {
-        IfaF::from_bits_retain(bits)
-    }
-}
-
-impl From<RtmF> for u32 {
-    fn from(flags: RtmF) -> u32 {
-        flags.bits()
-    }
-}
-
-impl From<u32> for RtmF {
-    fn from(bits: u32) -> RtmF {
-        RtmF::from_bits_retain(bits)
-    }
-}
+sets!(Iff as u32, IfaF as u8, RtmF as u32, Nud as u16, Ntf as u8);
 
 body! {
     /// A link: `struct ifinfomsg`, 16 bytes, and attributes.
@@ -202,4 +187,19 @@ body! {
     rtm_type: Rtn as u8,
     /// The flags; none, if they are not given.
     rtm_flags: RtmF as u32 = RtmF::empty(),
+}
+
+body! {
+    /// A neighbour: `struct ndmsg`, 12 bytes, and attributes.
+    Ndmsg, NdmsgBuilder, 12 bytes, attributes Nda;
+    /// The address family.
+    ndm_family: RtAddrFamily as u8,
+    /// The index of the link.
+    [gap 3] ndm_index: i32 as i32,
+    /// The states.
+    ndm_state: Nud as u16,
+    /// The flags; none, if they are not given.
+    ndm_flags: Ntf as u8 = Ntf::empty(),
+    /// The type.
+    ndm_type: Rtn as u8,
 }

@@ -4,11 +4,11 @@ use neli::connector::{CnMsg, CnMsgBuilder};
 use neli::consts::connector::{CnMsgIdx, CnMsgVal};
 use neli::consts::genl::{CtrlAttr, CtrlCmd};
 use neli::consts::nl::{NlmF, Nlmsg, NlmsgerrAttr};
-use neli::consts::rtnl::{Frattr, Iff, Ifla, IflaInfo, RtAddrFamily, Rtm};
+use neli::consts::rtnl::{Frattr, Iff, Ifla, IflaInfo, Nda, Ntf, Nud, RtAddrFamily, Rtm, Rtn};
 use neli::err::{DeError, Refusal, RouterError, SocketError};
 use neli::genl::{AttrTypeBuilder, Genlmsghdr, GenlmsghdrBuilder, NlattrBuilder};
 use neli::nl::{NlPayload, NlmsghdrBuilder};
-use neli::rtnl::{Ifinfomsg, IfinfomsgBuilder, RtattrBuilder};
+use neli::rtnl::{Ifinfomsg, IfinfomsgBuilder, Ndmsg, NdmsgBuilder, RtattrBuilder};
 use neli::types::{Buffer, RtBuffer};
 use neli::utils::Groups;
 use neli::{FromBytes, ToBytes};
@@ -49,6 +49,23 @@ fn a_link_is_written_and_read() {
     assert_eq!(info.get_attr_payload_as_with_len::<String>(IflaInfo::Kind).expect("a kind"), "veth");
     assert_eq!(handle.get_attr_payload_as::<u32>(Ifla::Mtu), Err(DeError::Missing(4)));
     assert_eq!(handle.get_attr_payload_as::<u32>(Ifla::Ifname), Err(DeError::InvalidInput(2)));
+}
+
+#[test]
+fn a_neighbour_is_written_and_read() {
+    let address = RtattrBuilder::default().rta_type(Nda::Dst).rta_payload([10, 0, 0, 2]).build().expect("an address");
+    let built = NdmsgBuilder::default().ndm_family(RtAddrFamily::Inet).ndm_index(0x0102_0304);
+    let built = built.ndm_state(Nud::PERMANENT | Nud::NOARP).ndm_type(Rtn::Unicast).ndm_flags(Ntf::ROUTER);
+    let neighbour = built.rtattrs([address].into_iter().collect()).build().expect("a neighbour");
+    let bytes = [2, 0, 0, 0, 4, 3, 2, 1, 0xc0, 0, 0x80, 1, 8, 0, 1, 0, 10, 0, 0, 2];
+    assert_eq!(written(&neighbour), bytes);
+    let read = Ndmsg::from_bytes(&bytes).expect("is read");
+    assert_eq!(read, neighbour);
+    assert_eq!((read.ndm_index(), read.ndm_state().contains(Nud::NOARP)), (&0x0102_0304, true));
+    assert_eq!((*read.ndm_flags(), *read.ndm_type()), (Ntf::ROUTER, Rtn::Unicast));
+    assert_eq!(Ndmsg::from_bytes(&bytes[..11]), Err(DeError::InvalidInput(11)));
+    let error = NdmsgBuilder::default().ndm_family(RtAddrFamily::Inet).build().expect_err("no index was given");
+    assert_eq!(error.to_string(), "`ndm_index` must be initialized");
 }
 
 #[test]

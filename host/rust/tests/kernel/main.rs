@@ -3,6 +3,7 @@
 mod dumps;
 mod lent;
 mod links;
+mod neighbours;
 mod space;
 mod together;
 mod trouble;
