@@ -285,9 +285,6 @@ int32_t neli_c_router_free(struct neli_router *router);
 int32_t neli_c_router_set_number(struct neli_router *router, uint32_t number);
 int32_t neli_c_router_send(struct neli_router *router, uint16_t type, uint16_t flags, const uint8_t *body,
                            size_t body_length, uint8_t *out, size_t room, struct neli_sent *sent);
-int32_t neli_c_router_send_expecting(struct neli_router *router, uint32_t answering, uint16_t type, uint16_t flags,
-                                     const uint8_t *body, size_t body_length, uint8_t *out, size_t room,
-                                     struct neli_sent *sent);
 int32_t neli_c_router_datagram(struct neli_router *router, const uint8_t *bytes, size_t length,
                                const uint32_t *groups, size_t group_count);
 int32_t neli_c_router_fault(struct neli_router *router, int32_t error_number);
@@ -581,17 +578,6 @@ static inline int32_t neli_router_send(struct neli_router *router, uint16_t type
         return NELI_NULL;
     return neli_c_router_send(router, type, flags, neli_read_at((const uint8_t *)body), body_length,
                               neli_write_at(out), room, sent);
-}
-
-/* The same of a request that is answered so, a number of enum neli_answering, whatever its flags are: by it the handle's
- * items end, and its verdict. A number that is none of these is taken for NELI_ANSWERING_ACKNOWLEDGEMENT. */
-static inline int32_t neli_router_send_expecting(struct neli_router *router, uint32_t answering, uint16_t type,
-                                                 uint16_t flags, const void *body, size_t body_length, uint8_t *out,
-                                                 size_t room, struct neli_sent *sent) {
-    if (router == NULL || !neli_is_slice(body, body_length) || !neli_is_slice(out, room) || sent == NULL)
-        return NELI_NULL;
-    return neli_c_router_send_expecting(router, answering, type, flags, neli_read_at((const uint8_t *)body), body_length,
-                                        neli_write_at(out), room, sent);
 }
 
 /* Takes in a datagram that arrived for these groups; none, or 0, if it arrived only for the router's port. It is

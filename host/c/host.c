@@ -232,10 +232,17 @@ int32_t host_settle(struct neli_host *host) {
 
 /* ---- Requests ---- */
 
+/* The router knows a dump by both bits of NLM_F_DUMP; the kernel gets those that were requested. */
 int32_t host_write(struct neli_host *host, uint32_t answering, const struct neli_host_request *request, uint8_t *out,
                    size_t room, struct neli_sent *sent) {
-    return neli_router_send_expecting(&host->router, answering, request->type, request->flags, request->body,
-                                      request->length, out, room, sent);
+    uint16_t added = answering == NELI_ANSWERING_DUMP ? NLM_F_DUMP & ~request->flags : 0, flags;
+    int32_t code = neli_router_send(&host->router, request->type, request->flags | added, request->body,
+                                    request->length, out, room, sent);
+    if (code != NELI_OK || added == 0) return code;
+    memcpy(&flags, out + offsetof(struct nlmsghdr, nlmsg_flags), sizeof flags);
+    flags &= (uint16_t)~added;
+    memcpy(out + offsetof(struct nlmsghdr, nlmsg_flags), &flags, sizeof flags);
+    return NELI_OK;
 }
 
 /* A request, in `request`. */

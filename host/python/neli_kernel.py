@@ -55,7 +55,7 @@ def _library():
     calls = {
         "neli_c_router_new": [pointer, u32],
         "neli_c_router_free": [pointer],
-        "neli_c_router_send_expecting": [pointer, u32, u16, u16, *slice_of, *room],
+        "neli_c_router_send": [pointer, u16, u16, *slice_of, *room],
         "neli_c_router_datagram": [pointer, *slice_of, pointer, size],
         "neli_c_router_fault": [pointer, i32],
         "neli_c_router_read": [pointer, size, pointer],
@@ -295,19 +295,14 @@ class SimulatedSocket(neli._Socket):
             raise self._error(KIND)
         return [self.request(*it) for it in requests]
 
-    def _answering(self, msg_type, msg_flags, body):
-        """How a kernel answers it: a number of `enum neli_answering`."""
-        return _lib.neli_c_answering(self.family, msg_type, msg_flags, len(body))
-
     def _is_dump(self, msg_type, msg_flags, body):
         """Whether a kernel answers it by a dump."""
-        return self._answering(msg_type, msg_flags, body) == ANSWERING_DUMP
+        return _lib.neli_c_answering(self.family, msg_type, msg_flags, len(body)) == ANSWERING_DUMP
 
     def _send(self, msg_type, msg_flags, body):
         sent, out = _Sent(), ctypes.create_string_buffer(len(body) + 32)
-        self._well(_lib.neli_c_router_send_expecting(
-            self._opened(), self._answering(msg_type, msg_flags, body), msg_type, msg_flags, body, len(body), out,
-            len(out), ctypes.byref(sent)))
+        self._well(_lib.neli_c_router_send(self._opened(), msg_type, msg_flags, body, len(body), out, len(out),
+                                           ctypes.byref(sent)))
         self._faults[sent.handle] = 0
         return neli.Reply(self, sent.handle), out.raw[: sent.length]
 

@@ -6,8 +6,7 @@ ghost use Rattle.std.specs.Prelude.{◌≡◌, ◌≢◌, ◌⊎◌, IfSome, IsS
 ghost use Rattle.neli_c_parts.specs.Codes.{memory, ok, state};
 ghost use Rattle.neli_c_parts.specs.Sessions.{ClosesHandle, IsNew, ReadsPlace, RefusesRequest, SaysNeeded};
 ghost use Rattle.neli_c_parts.specs.Sessions.{SendsNothing};
-ghost use Rattle.neli_c_parts.specs.Sessions.{SendsExpecting, SendsRequest, SetsNumber, TakesDatagram, TakesFault, WritesItem};
-ghost use Rattle.neli_c_parts.specs.Expecting.{answering_of_number};
+ghost use Rattle.neli_c_parts.specs.Sessions.{SendsRequest, SetsNumber, TakesDatagram, TakesFault, WritesItem};
 ghost use Rattle.neli_c_parts.specs.Verdicts.{GivesUpHandle, HearsHandle, TellsVerdict};
 ghost use Rattle.neli_c_parts.specs.Ahead.{LendsItems, PassesItems};
 ghost use Rattle.neli_c_parts.specs.Lending.{LendsPlace, PassesPlace};
@@ -17,7 +16,6 @@ ghost use Rattle.neli_c_parts.specs.Listens.{Listens, Misses, MissesSame};
 ghost use Rattle.neli_c_parts.specs.Slots.{handle_at};
 
 use neli_c_parts::code::{MEMORY, OK, STATE};
-use neli_c_parts::expecting::of_number;
 use neli_c_parts::lending::NeliLent;
 use neli_c_parts::router_opaque::NeliRouter;
 use neli_c_parts::session::{NeliItem, NeliSent, NeliVerdict, Session};
@@ -110,41 +108,6 @@ pub extern "C" fn neli_c_router_send(
         return STATE;
     };
     let code = session.send(alloc, nl_type, flags, body, out, sent);
-    router.put(session);
-    code
-}
-
-/// Writes a request as `neli_c_router_send` does, for a caller who knows how it is answered: a number of
-/// `enum neli_answering`. A number that is none of these is taken for that of an acknowledgement.
-///
-/// Returns what `neli_c_router_send` returns.
-#[unsafe(no_mangle)]
-pub extern "C" fn neli_c_router_send_expecting(
-    alloc: Global,
-    router: &mut NeliRouter,
-    answering: u32,
-    nl_type: u16,
-    flags: u16,
-    body: &[u8],
-    out: &mut [u8],
-    sent: &mut NeliSent,
-) -> i32
-    ensures closed { router.old.place.value ≡ None
-        → (result ≡ state) × (router.new.place.value ≡ None) × (out.new ≡ out.old)
-        × (sent.new ≡ sent.old) }
-    ensures open { IfSome router.old.place.value (λ s. IsSome router.new.place.value
-        × IfSome router.new.place.value (λ t. (result ≢ ok → SendsNothing s t
-        × RefusesRequest result body.now s out.old × SaysNeeded result body.now sent.old sent.new)
-        × (result ≡ ok → SendsExpecting (answering_of_number answering)
-        nl_type flags body.now s t out.old out.new sent.new))) }
-    ensures unwritten { result ≢ ok → out.new ≡ out.old }
-    ensures missed { IfSome router.old.place.value
-        (λ s. IfSome router.new.place.value (MissesSame s)) }
-{
-    let Some(mut session) = router.take(alloc) else {
-        return STATE;
-    };
-    let code = session.send_expecting(alloc, of_number(answering), nl_type, flags, body, out, sent);
     router.put(session);
     code
 }
@@ -416,7 +379,8 @@ pub extern "C" fn neli_c_router_pass_items(
 /// Returns `WAITS` until it has ended; `OK` if it is complete; `INTERRUPTED` if a message of it, its end included, is
 /// marked with `NLM_F_DUMP_INTR`, as soon as it is read; `KERNEL_ERROR` if the kernel answered with an error, or ended
 /// a dump with one, whose code is in `verdict`; `UNENDED` if the reads ended before the answer did; `LINK`, `BYTES`,
-/// `STRAY`, `NO_ACK` or `UNEXPECTED_ACK` for any other end; `HANDLE` if the handle is not open, and then `verdict` is unchanged. The router is unchanged.
+/// `STRAY`, `NO_ACK` or `UNEXPECTED_ACK` for any other end; `HANDLE` if the handle is not open, and then `verdict` is
+/// unchanged. The router is unchanged.
 #[unsafe(no_mangle)]
 pub extern "C" fn neli_c_router_verdict(
     alloc: Global,

@@ -175,9 +175,8 @@ unsafe extern "C" {
     fn neli_c_router_new(router: *mut RawRouter, port: u32) -> i32;
     fn neli_c_router_free(router: *mut RawRouter) -> i32;
     fn neli_c_router_set_number(router: *mut RawRouter, number: u32) -> i32;
-    fn neli_c_router_send_expecting(
+    fn neli_c_router_send(
         router: *mut RawRouter,
-        answering: u32,
         kind: u16,
         flags: u16,
         body: *const u8,
@@ -305,21 +304,12 @@ impl Router {
         unsafe { neli_c_router_set_number(self.raw(), number) }
     }
 
-    /// A request with this body that is answered so, a number of `enum neli_answering`, written into `out`.
-    pub fn send_expecting(
-        &mut self,
-        answering: u32,
-        kind: u16,
-        flags: u16,
-        body: &[u8],
-        out: &mut [u8],
-        sent: &mut Sent,
-    ) -> i32 {
-        let (body, length, room) = (body.as_ptr(), body.len(), out.len());
+    /// A request with this body, written into `out`.
+    pub fn send(&mut self, kind: u16, flags: u16, body: &[u8], out: &mut [u8], sent: &mut Sent) -> i32 {
         // SAFETY: the router is open, and borrowed exclusively; each pointer and its length are those of one slice, and
         // that of `out` is exclusive, so they are apart.
         unsafe {
-            neli_c_router_send_expecting(self.raw(), answering, kind, flags, body, length, out.as_mut_ptr(), room, sent)
+            neli_c_router_send(self.raw(), kind, flags, body.as_ptr(), body.len(), out.as_mut_ptr(), out.len(), sent)
         }
     }
 

@@ -11,7 +11,7 @@ const MIN_TYPE: u16 = 16;
 
 /// How the kernel answers a request, by the library's table: a number of `enum neli_answering`.
 #[derive(Clone, Copy, Debug, PartialEq, Eq)]
-pub(super) struct Answering(pub(super) u32);
+pub(super) struct Answering(u32);
 
 impl Answering {
     /// Of a request of this family, with a body of this length.

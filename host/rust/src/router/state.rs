@@ -176,7 +176,7 @@ impl State {
         let answering = self.answering(kind, flags, body);
         let mut out = vec![0; 16 + body.len().next_multiple_of(4)];
         let mut sent = ffi::Sent::default();
-        match self.router.send_expecting(answering.0, kind, flags.bits(), body, &mut out, &mut sent) {
+        match self.write(answering, kind, flags, body, &mut out, &mut sent) {
             ffi::END => {}
             ffi::MEMORY => return Err(RouterError::Memory),
             ffi::IN_USE => return Err(RouterError::SeqInUse),
@@ -195,6 +195,26 @@ impl State {
     /// How the kernel answers a request of this type with these flags and this body.
     pub(super) fn answering(&self, kind: u16, flags: NlmF, body: &[u8]) -> Answering {
         Answering::of(self.link.family(), kind, flags, body.len())
+    }
+
+    /// Writes a request that is answered so: as the library's router writes it, but that a dump waits for no
+    /// acknowledgement, also where one was requested and only one bit of DUMP is set. That router knows a dump by both
+    /// bits; the kernel gets those that were requested.
+    fn write(
+        &mut self,
+        answering: Answering,
+        kind: u16,
+        flags: NlmF,
+        body: &[u8],
+        out: &mut [u8],
+        sent: &mut ffi::Sent,
+    ) -> i32 {
+        let added = if answering.is_dump() { NlmF::DUMP.bits() & !flags.bits() } else { 0 };
+        let code = self.router.send(kind, flags.bits() | added, body, out, sent);
+        if let (ffi::END, Some([_, _, _, _, _, _, low, high, ..])) = (code, out.get_mut(..16)) {
+            [*low, *high] = (u16::from_ne_bytes([*low, *high]) & !added).to_ne_bytes();
+        }
+        code
     }
 
     /// This request is no longer read.
