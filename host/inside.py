@@ -166,10 +166,15 @@ def try_watch(at):
 
 
 def try_page(at):
-    """The example of docs/CALLING.md."""
+    """The example of docs/C.md."""
     lines = well(f"{at}/page").splitlines()
     # IFLA_IFNAME of linux/if_link.h is 3, and "lo" has a zero byte after it.
     assert "attribute 3 of 3 bytes" in lines, lines
+
+
+def try_readme(at):
+    """The example of the README in C."""
+    assert well(f"{at}/readme") == "lo\n"
 
 
 def frames_of(path):
@@ -466,5 +471,6 @@ INSIDE = {
     "monitor": try_monitor,
     "replay": try_replay,
     "page": try_page,
+    "readme": try_readme,
     "storm": try_storm,
 }

@@ -27,7 +27,7 @@ extern "C" {
 
 /* ---- Version ---- */
 
-/* The version of this header, by semver.org: docs/RELEASING.md defines the promise of each number. */
+/* The version of this header, by semver.org: docs/WORKING.md defines the promise of each number. */
 #define NELI_VERSION_MAJOR 0
 #define NELI_VERSION_MINOR 1
 #define NELI_VERSION_PATCH 0

@@ -75,7 +75,8 @@ fn main() {
     }
     let table = shared(&here, "constants", "suites/constants/stdout");
     shared(&here, "neli.h", "include/neli.h");
-    shared(&here, "CALLING.md", "docs/CALLING.md");
+    shared(&here, "RUST.md", "docs/RUST.md");
+    shared(&here, "README.md", "README.md");
     println!("cargo::rerun-if-changed={}", table.display());
     let text = fs::read_to_string(&table).unwrap_or_else(|error| panic!("{}: {error}", table.display()));
     let out = PathBuf::from(env::var("OUT_DIR").expect("cargo says where to write"));
@@ -100,7 +101,7 @@ fn link(variable: &str, library: &str, place: impl FnOnce() -> PathBuf) {
     let file = folder.join(format!("lib{library}.a"));
     println!("cargo::rerun-if-changed={}", file.display());
     if !file.is_file() {
-        println!("cargo::warning={} is not there: see docs/CALLING.md, or set {variable}", file.display());
+        println!("cargo::warning={} is not there: see docs/RUST.md, or set {variable}", file.display());
     }
     println!("cargo::rustc-link-search=native={}", folder.display());
     println!("cargo::rustc-link-lib=static={library}");

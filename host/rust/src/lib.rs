@@ -2,7 +2,7 @@
 //! library `libneli_c.a`.
 //!
 //! The names are those of the crate neli 0.7, so that a program of its users moves over; `docs/DIFFERENCES.md` says
-//! what differs, and `docs/CALLING.md` how to build, who owns what, and what threads may do. Reading and writing
+//! what differs, and `docs/RUST.md` how to build, who owns what, and what threads may do. Reading and writing
 //! messages and attributes, and all that the router decides, is done by the library and proved there; sockets and the
 //! types of this crate are tested alone.
 //!
@@ -52,9 +52,10 @@ pub mod utils;
 use err::{DeError, SerError};
 use std::ffi::{CStr, CString};
 
-/// The examples of the page on this crate are built.
+/// The examples of the page on this crate, and of the first page, are built.
 #[cfg(doctest)]
-#[doc = include_str!(env!("NELI_FILE_CALLING_MD"))]
+#[doc = include_str!(env!("NELI_FILE_RUST_MD"))]
+#[doc = include_str!(env!("NELI_FILE_README_MD"))]
 struct Page;
 
 /// What is written as a payload.
