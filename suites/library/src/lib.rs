@@ -5,7 +5,7 @@
 //! - [`messages`]: messages, owned and lent. [`router`]: the router and the resolvers, over each store.
 //! - [`session`]: a session: its requests, its readers and their verdicts.
 //! - [`simulator`]: a kernel's answers. [`schema`]: messages by the tables of their families. [`programs`]: whole
-//!   programs. [`doors`]: what the exports of `neli_c` stand on. [`trial`]: what is changed at random.
+//!   programs. [`pages`]: examples of docs/. [`doors`]: what the exports of `neli_c` stand on. [`trial`]: what is changed at random.
 #![tactic(auto)]
 
 #[cfg(test)]
@@ -16,6 +16,8 @@ mod bodies;
 mod doors;
 #[cfg(test)]
 mod messages;
+#[cfg(test)]
+mod pages;
 #[cfg(test)]
 mod payloads;
 #[cfg(test)]
