@@ -1,28 +1,33 @@
-//! A session over one socket: the answers to its requests, what comes to its groups, and what nobody asked for.
+//! A session over one socket: what goes out next, the answers to its requests, what comes to its groups, and what
+//! nobody asked for.
 //!
-//! It sends nothing: write a request, say how it is answered by [`Session::expect`], and hand in what comes.
-//! `docs/SESSION.md` says who gets what. This reads a dump to its end (a test, line by line:
-//! `suites/library/src/session/example.rs`):
+//! It has no socket: send what [`Session::outgoing`] lends, and hand in what comes. `docs/SESSION.md` says who gets what.
+//! This reads a dump to its end (a test, line by line: `suites/library/src/session/example.rs`):
 //!
 //! ```
 //! use neli::consts::nl::NlmF;
 //! use neli::consts::socket::NlFamily;
-//! use neli::session::{Answering, Next, Reader, Session, Verdict};
+//! use neli::session::{Next, Reader, Session, Verdict};
 //!
-//! let mut session = Session::new(alloc, port, false);
-//! let answering = Answering::of(NlFamily::Route, 30, NlmF::DUMP, 12);
-//! session.expect(1012, answering, false)?;
-//! // Your link sends the request, and `datagram` comes back.
-//! session.receive(datagram, 0, false)?;
-//! while let Next::Message(message) = session.next(Reader::Request(1012)) {
-//!     bytes += message.nl_payload().len();
-//!     session.pass_answer(1012);
+//! let mut session = Session::new(alloc, NlFamily::Route, port, false);
+//! session.set_number(1012);
+//! let number = session.request(30, NlmF::DUMP, &[0; 12])?;
+//! while session.next_outgoing() {
+//!     // Your link sends what `session.outgoing()` lends.
+//!     session.sent();
 //! }
-//! let is_whole = session.verdict(1012) == Some(Verdict::Complete);
-//! session.close(1012);
+//! // `datagram` comes back, and then nothing.
+//! session.receive(datagram, 0, false)?;
+//! session.quiet();
+//! while let Next::Message(message) = session.next(Reader::Request(number)) {
+//!     bytes += message.nl_payload().len();
+//!     session.pass_answer(number);
+//! }
+//! let is_whole = session.verdict(number) == Some(Verdict::Complete);
+//! session.close(number);
 //! ```
 
-pub use neli_session::{Answering, ExpectError, Loss, Next, Reader, Session, Untaken, Verdict};
+pub use neli_session::{Answering, Loss, Next, Reader, SendError, Session, Untaken, Verdict};
 
 /// Laws: what the reads of a request return, whatever happens to it, and what a datagram is for one request.
 pub mod laws {

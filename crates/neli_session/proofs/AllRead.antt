@@ -5,15 +5,18 @@ use Rattle.std.specs.Prelude.{◌==◌, if◌then◌else◌, is_some}
 use Rattle.neli_answers.specs.Answers.{ends_answer}
 use Rattle.neli_answers.specs.declared.answering.Answering.{Answering}
 use Rattle.neli_lent.specs.Messages.{Lent}
+use Rattle.neli_session.specs.declared.change.Change.{Change}
+use Rattle.neli_session.specs.declared.change.Change.TheVariants as change
 use Rattle.neli_session.specs.declared.loss.Loss.{Loss}
+use Rattle.neli_session.specs.declared.loss.Loss.TheVariants as loss
 use Rattle.neli_session.specs.declared.request.Request.{Request}
 use Rattle.neli_session.specs.declared.request.Stage.{Stage}
 use Rattle.neli_session.specs.declared.request.Stage.TheVariants as stage
 use Rattle.neli_session.specs.declared.request.Verdict.{Verdict}
-use Rattle.neli_session.specs.Requests.{answers, heard, is_awaited, is_over}
-use Rattle.neli_session.specs.Sessions.{after_all, after_own, expected, is_own, kept}
-use Rattle.neli_session.specs.Happenings.{Happening, Came, Lost, Emptied, Read, after_happenings, answer, came_for}
-use Rattle.neli_session.specs.Happenings.{left, returned, returned_by, then_is}
+use Rattle.neli_session.specs.Requests.{answers, changed, heard, is_awaited, is_over}
+use Rattle.neli_session.specs.Sessions.{after_all, after_own, is_own, kept, queued}
+use Rattle.neli_session.specs.Happenings.{Happening, Came, Changed, Read, after_happenings, answer, answer_since}
+use Rattle.neli_session.specs.Happenings.{came_for, left, loss_list, returned, returned_by, then_is}
 use Rattle.neli_session.specs.Waiting.{Item}
 
 append-assoc : (xs ys zs : List Item) → (xs ++ ys) ++ zs ≡ xs ++ (ys ++ zs)
@@ -30,8 +33,14 @@ pub record IsSound (r : Request) : Type 0 where
   pub told : r.loss ≡ None → r.is_told ≡ false
 
 -- what is still to come for it: nothing where it has ended, or something was lost
+abbrev pub future_at : Stage → Answering → Bool → List Happening → List Item
+future_at stage.Queued a e hs = answer a e hs
+future_at stage.Leaving a e hs = answer_since false a e hs
+future_at stage.Awaited a e hs = answer_since true a e hs
+future_at s a e hs = []
+
 abbrev pub future : Request → List Happening → List Item
-future r hs = if is_awaited r.stage && not (is_some r.loss) then answer r.answering r.echoes hs else []
+future r hs = if is_some r.loss then [] else future_at r.stage r.answering r.echoes hs
 
 -- ---- a request by its fields
 
@@ -49,99 +58,172 @@ made a e s w l t v = record {
 
 module _ (a : Answering) (e : Bool) (v : Verdict) (hs : List Happening) where
   -- a message came while the answer is awaited, and nothing was lost
-  came : (m : Lent ℕ) (w : List Item) (mine : Bool)
-      → (left (if mine then made a e (if ends_answer a m.0.message_type m.0.flags then stage.Ended else stage.Awaited)
-      (w ++ Ok m ∷ []) None false v else made a e stage.Awaited w None false v)
+  came : (s : Stage) (m : Lent ℕ) (w : List Item) (mine : Bool)
+      → (left (if mine then made a e (if ends_answer a m.0.message_type m.0.flags then stage.Ended else s)
+      (w ++ Ok m ∷ []) None false v else made a e s w None false v)
       ++ future (if mine then made a e (if ends_answer a m.0.message_type m.0.flags then stage.Ended
-      else stage.Awaited) (w ++ Ok m ∷ []) None false v else made a e stage.Awaited w None false v) hs)
-      ≡ (w ++ []) ++ (if mine then Ok m ∷ (if ends_answer a m.0.message_type m.0.flags then [] else answer a e hs)
-      else answer a e hs)
-  came m w true = ends (ends_answer a m.0.message_type m.0.flags)
+      else s) (w ++ Ok m ∷ []) None false v else made a e s w None false v) hs)
+      ≡ (w ++ []) ++ (if mine then Ok m ∷ (if ends_answer a m.0.message_type m.0.flags then []
+      else future_at s a e hs) else future_at s a e hs)
+  came s m w true = ends (ends_answer a m.0.message_type m.0.flags)
     where
-      ends : (b : Bool) → (left (made a e (if b then stage.Ended else stage.Awaited) (w ++ Ok m ∷ []) None false v)
-          ++ future (made a e (if b then stage.Ended else stage.Awaited) (w ++ Ok m ∷ []) None false v) hs)
-          ≡ (w ++ []) ++ (Ok m ∷ (if b then [] else answer a e hs))
+      ends : (b : Bool) → (left (made a e (if b then stage.Ended else s) (w ++ Ok m ∷ []) None false v)
+          ++ future (made a e (if b then stage.Ended else s) (w ++ Ok m ∷ []) None false v) hs)
+          ≡ (w ++ []) ++ (Ok m ∷ (if b then [] else future_at s a e hs))
       ends true = append-none ((w ++ Ok m ∷ []) ++ []) ∙ append-none (w ++ Ok m ∷ [])
           ∙ ap (λ (xs : List Item). xs ++ Ok m ∷ []) (sym (append-none w))
-      ends false = ap (λ (xs : List Item). xs ++ answer a e hs) (append-none (w ++ Ok m ∷ []))
-          ∙ append-assoc w (Ok m ∷ []) (answer a e hs)
-          ∙ ap (λ (xs : List Item). xs ++ (Ok m ∷ answer a e hs)) (sym (append-none w))
-  came m w false = refl
+      ends false = ap (λ (xs : List Item). xs ++ future_at s a e hs) (append-none (w ++ Ok m ∷ []))
+          ∙ append-assoc w (Ok m ∷ []) (future_at s a e hs)
+          ∙ ap (λ (xs : List Item). xs ++ (Ok m ∷ future_at s a e hs)) (sym (append-none w))
+  came s m w false = refl
 
   -- a message came after a loss: it is not kept
-  came_late : (m : Lent ℕ) (w : List Item) (x : Loss) (t mine ends : Bool)
-      → (left (if mine then made a e (if ends then stage.Ended else stage.Awaited) w (Some x) t v
-      else made a e stage.Awaited w (Some x) t v)
-      ++ future (if mine then made a e (if ends then stage.Ended else stage.Awaited) w (Some x) t v
-      else made a e stage.Awaited w (Some x) t v) hs)
-      ≡ left (made a e stage.Awaited w (Some x) t v) ++ []
-  came_late m w x t true true = refl
-  came_late m w x t true false = refl
-  came_late m w x t false ends = refl
+  came_late : (s : Stage) (m : Lent ℕ) (w : List Item) (x : Loss) (t mine ends : Bool)
+      → (left (if mine then made a e (if ends then stage.Ended else s) w (Some x) t v
+      else made a e s w (Some x) t v)
+      ++ future (if mine then made a e (if ends then stage.Ended else s) w (Some x) t v
+      else made a e s w (Some x) t v) hs)
+      ≡ left (made a e s w (Some x) t v) ++ []
+  came_late s m w x t true true = refl
+  came_late s m w x t true false = refl
+  came_late s m w x t false ends = refl
+
+  -- the first loss is told after what waits
+  told-last : (w : List Item) (y : Loss) → (w ++ Err y ∷ []) ++ [] ≡ (w ++ []) ++ Err y ∷ []
+  told-last w y = append-none (w ++ Err y ∷ []) ∙ ap (λ (xs : List Item). xs ++ Err y ∷ []) (sym (append-none w))
+
+  changed-by : (c : Change) (s : Stage) (w : List Item) (l : Option Loss) (t : Bool) → (l ≡ None → t ≡ false)
+      → left (changed c (made a e s w l t v)) ++ future (changed c (made a e s w l t v)) hs
+      ≡ left (made a e s w l t v) ++ future (made a e s w l t v) (Changed c ∷ hs)
+  changed-by change.Leave stage.Queued w None t told = refl
+  changed-by change.Leave stage.Leaving w None t told = refl
+  changed-by change.Leave stage.Awaited w None t told = refl
+  changed-by change.Leave stage.Ended w None t told = refl
+  changed-by change.Leave stage.Silent w None t told = refl
+  changed-by change.Leave s w (Some x) t told = refl
+  changed-by change.Sent stage.Queued w None t told = refl
+  changed-by change.Sent stage.Leaving w None t told = refl
+  changed-by change.Sent stage.Awaited w None t told = refl
+  changed-by change.Sent stage.Ended w None t told = refl
+  changed-by change.Sent stage.Silent w None t told = refl
+  changed-by change.Sent s w (Some x) t told = refl
+  changed-by (change.Unsent n) stage.Queued w None t told = refl
+  changed-by (change.Unsent n) stage.Leaving w None true told = (let no = told refl in cc)
+  changed-by (change.Unsent n) stage.Leaving w None false told = told-last w (loss.Unsent n)
+  changed-by (change.Unsent n) stage.Awaited w None t told = refl
+  changed-by (change.Unsent n) stage.Ended w None t told = refl
+  changed-by (change.Unsent n) stage.Silent w None t told = refl
+  changed-by (change.Unsent n) stage.Queued w (Some x) t told = refl
+  changed-by (change.Unsent n) stage.Leaving w (Some x) t told = refl
+  changed-by (change.Unsent n) stage.Awaited w (Some x) t told = refl
+  changed-by (change.Unsent n) stage.Ended w (Some x) t told = refl
+  changed-by (change.Unsent n) stage.Silent w (Some x) t told = refl
+  changed-by (change.Lose y) stage.Queued w None t told = refl
+  changed-by (change.Lose y) stage.Leaving w None true told = (let no = told refl in cc)
+  changed-by (change.Lose y) stage.Leaving w None false told = told-last w y
+  changed-by (change.Lose y) stage.Awaited w None true told = (let no = told refl in cc)
+  changed-by (change.Lose y) stage.Awaited w None false told = told-last w y
+  changed-by (change.Lose y) stage.Ended w None t told = refl
+  changed-by (change.Lose y) stage.Silent w None t told = refl
+  changed-by (change.Lose y) stage.Queued w (Some x) t told = refl
+  changed-by (change.Lose y) stage.Leaving w (Some x) t told = refl
+  changed-by (change.Lose y) stage.Awaited w (Some x) t told = refl
+  changed-by (change.Lose y) stage.Ended w (Some x) t told = refl
+  changed-by (change.Lose y) stage.Silent w (Some x) t told = refl
+  changed-by change.Settle stage.Queued w None t told = refl
+  changed-by change.Settle stage.Leaving w None t told = refl
+  changed-by change.Settle stage.Awaited w None t told = refl
+  changed-by change.Settle stage.Ended w None t told = refl
+  changed-by change.Settle stage.Silent w None t told = refl
+  changed-by change.Settle s w (Some x) t told = refl
 
   step-by : (h : Happening) (s : Stage) (w : List Item) (l : Option Loss) (t : Bool) → (l ≡ None → t ≡ false)
       → returned h (made a e s w l t v) ++ (left (then_is h (made a e s w l t v))
       ++ future (then_is h (made a e s w l t v)) hs)
       ≡ left (made a e s w l t v) ++ future (made a e s w l t v) (h ∷ hs)
+  step-by (Came group m) stage.Leaving w None true told = (let no = told refl in cc)
+  step-by (Came group m) stage.Leaving w None false told = came stage.Leaving m w ((group == 0) || e)
+  step-by (Came group m) stage.Leaving w (Some x) t told =
+      came_late stage.Leaving m w x t ((group == 0) || e) (ends_answer a m.0.message_type m.0.flags)
   step-by (Came group m) stage.Awaited w None true told = (let no = told refl in cc)
-  step-by (Came group m) stage.Awaited w None false told = came m w ((group == 0) || e)
+  step-by (Came group m) stage.Awaited w None false told = came stage.Awaited m w ((group == 0) || e)
   step-by (Came group m) stage.Awaited w (Some x) t told =
-      came_late m w x t ((group == 0) || e) (ends_answer a m.0.message_type m.0.flags)
-  step-by (Came group m) stage.Ended w l t told = refl
-  step-by (Came group m) stage.Silent w l t told = refl
-  step-by (Lost y) stage.Awaited w None true told = (let no = told refl in cc)
-  step-by (Lost y) stage.Awaited w None false told = append-none (w ++ Err y ∷ [])
-      ∙ ap (λ (xs : List Item). xs ++ Err y ∷ []) (sym (append-none w))
-  step-by (Lost y) stage.Awaited w (Some x) t told = refl
-  step-by (Lost y) stage.Ended w l t told = refl
-  step-by (Lost y) stage.Silent w l t told = refl
-  step-by Emptied stage.Awaited w None t told = refl
-  step-by Emptied stage.Awaited w (Some x) t told = refl
-  step-by Emptied stage.Ended w l t told = refl
-  step-by Emptied stage.Silent w l t told = refl
-  step-by Read s (x ∷ w) l t told = refl
-  step-by Read s [] None true told = refl
-  step-by Read s [] None false told = refl
+      came_late stage.Awaited m w x t ((group == 0) || e) (ends_answer a m.0.message_type m.0.flags)
+  step-by (Came group m) stage.Queued w None t told = refl
+  step-by (Came group m) stage.Ended w None t told = refl
+  step-by (Came group m) stage.Silent w None t told = refl
+  step-by (Came group m) stage.Queued w (Some x) t told = refl
+  step-by (Came group m) stage.Ended w (Some x) t told = refl
+  step-by (Came group m) stage.Silent w (Some x) t told = refl
+  step-by (Changed c) s w l t told = changed-by c s w l t told
+  step-by Read s (x ∷ w) None t told = read-none s
+    where
+      read-none : (s : Stage) → (x ∷ []) ++ ((w ++ loss_list (if t then None else None)) ++ future_at s a e hs)
+          ≡ (x ∷ w ++ loss_list (if t then None else None)) ++ future_at s a e (Read ∷ hs)
+      read-none stage.Queued = refl
+      read-none stage.Leaving = refl
+      read-none stage.Awaited = refl
+      read-none stage.Ended = refl
+      read-none stage.Silent = refl
+  step-by Read s (x ∷ w) (Some y) t told = refl
+  step-by Read s [] None true told = (let no = told refl in cc)
+  step-by Read stage.Queued [] None false told = refl
+  step-by Read stage.Leaving [] None false told = refl
+  step-by Read stage.Awaited [] None false told = refl
+  step-by Read stage.Ended [] None false told = refl
+  step-by Read stage.Silent [] None false told = refl
   step-by Read s [] (Some x) true told = refl
   step-by Read s [] (Some x) false told = refl
 
-  sound-came : (m : Lent ℕ) (s : Stage) (w w' : List Item) (s' : Stage) (l : Option Loss) (t mine : Bool)
-      → (l ≡ None → t ≡ false) → IsSound (if mine then made a e s' w' l t v else made a e s w l t v)
-  sound-came m s w w' s' l t true told = record { open_is = refl; told = told }
-  sound-came m s w w' s' l t false told = record { open_is = refl; told = told }
+module _ (a : Answering) (e : Bool) (v : Verdict) (w : List Item) where
+  sound-came : (m : Lent ℕ) (s : Stage) (l : Option Loss) (t mine : Bool) → (l ≡ None → t ≡ false)
+      → IsSound (if mine then heard m (made a e s w l t v) else made a e s w l t v)
+  sound-came m s l t true told = record { open_is = refl; told = told }
+  sound-came m s l t false told = record { open_is = refl; told = told }
+
+  sound-lost : (y : Loss) (s s' : Stage) (l : Option Loss) (t awaited : Bool) → (l ≡ None → t ≡ false)
+      → IsSound (made a e s' w (if awaited && not (is_some l) then Some y else l) t v)
+  sound-lost y s s' None t true told = record { open_is = refl; told = λ n. cc }
+  sound-lost y s s' (Some x) t true told = record { open_is = refl; told = told }
+  sound-lost y s s' l t false told = record { open_is = refl; told = told }
+
+  sound-changed : (c : Change) (s : Stage) (l : Option Loss) (t : Bool) → (l ≡ None → t ≡ false)
+      → IsSound (changed c (made a e s w l t v))
+  sound-changed change.Leave s l t told = record { open_is = refl; told = told }
+  sound-changed change.Sent s l t told = record { open_is = refl; told = told }
+  sound-changed (change.Unsent n) stage.Queued l t told = record { open_is = refl; told = told }
+  sound-changed (change.Unsent n) stage.Leaving l t told =
+      sound-lost (loss.Unsent n) stage.Leaving stage.Silent l t true told
+  sound-changed (change.Unsent n) stage.Awaited l t told = record { open_is = refl; told = told }
+  sound-changed (change.Unsent n) stage.Ended l t told = record { open_is = refl; told = told }
+  sound-changed (change.Unsent n) stage.Silent l t told = record { open_is = refl; told = told }
+  sound-changed (change.Lose y) s l t told = sound-lost y s s l t (is_awaited s) told
+  sound-changed change.Settle s l t told = record { open_is = refl; told = told }
 
 sound-by : (a : Answering) (e : Bool) (v : Verdict) (h : Happening) (s : Stage) (w : List Item) (l : Option Loss) (t : Bool)
     → (l ≡ None → t ≡ false) → IsSound (then_is h (made a e s w l t v))
-sound-by a e v (Came group m) stage.Awaited w None t told =
-    sound-came a e v [] m stage.Awaited w (w ++ Ok m ∷ [])
-    (if ends_answer a m.0.message_type m.0.flags then stage.Ended else stage.Awaited) None t ((group == 0) || e) told
-sound-by a e v (Came group m) stage.Awaited w (Some x) t told =
-    sound-came a e v [] m stage.Awaited w w
-    (if ends_answer a m.0.message_type m.0.flags then stage.Ended else stage.Awaited) (Some x) t ((group == 0) || e) told
-sound-by a e v (Came group m) stage.Ended w l t told = record { open_is = refl; told = told }
-sound-by a e v (Came group m) stage.Silent w l t told = record { open_is = refl; told = told }
-sound-by a e v (Lost y) stage.Awaited w None t told = record { open_is = refl; told = λ n. cc }
-sound-by a e v (Lost y) stage.Awaited w (Some x) t told = record { open_is = refl; told = told }
-sound-by a e v (Lost y) stage.Ended w l t told = record { open_is = refl; told = told }
-sound-by a e v (Lost y) stage.Silent w l t told = record { open_is = refl; told = told }
-sound-by a e v Emptied stage.Awaited w l t told = record { open_is = refl; told = told }
-sound-by a e v Emptied stage.Ended w l t told = record { open_is = refl; told = told }
-sound-by a e v Emptied stage.Silent w l t told = record { open_is = refl; told = told }
+sound-by a e v (Came group m) s w l t told =
+    sound-came a e v w m s l t (answers group (made a e s w l t v)) told
+sound-by a e v (Changed c) s w l t told = sound-changed a e v w c s l t told
 sound-by a e v Read s (x ∷ w) l t told = record { open_is = refl; told = told }
 sound-by a e v Read s [] None true told = record { open_is = refl; told = told }
 sound-by a e v Read s [] None false told = record { open_is = refl; told = told }
-sound-by a e v Read s [] (Some x) true told = record { open_is = refl; told = λ n. cc }
+sound-by a e v Read s [] (Some x) true told = record { open_is = refl; told = told }
 sound-by a e v Read s [] (Some x) false told = record { open_is = refl; told = λ n. cc }
 
 abbrev nothing : List Item
 nothing = []
 
 no-future : (r : Request) → future r [] ≡ []
-no-future r = go (is_awaited r.stage && not (is_some r.loss))
+no-future r = go (is_some r.loss) r.stage
   where
-    go : (b : Bool) → (if b then nothing else nothing) ≡ nothing
-    go true = refl
-    go false = refl
+    go : (b : Bool) (s : Stage) → (if b then nothing else future_at s r.answering r.echoes []) ≡ nothing
+    go true s = refl
+    go false stage.Queued = refl
+    go false stage.Leaving = refl
+    go false stage.Awaited = refl
+    go false stage.Ended = refl
+    go false stage.Silent = refl
 
 -- every request with a reader is made of its fields
 made-of : (r : Request) → r.is_open ≡ true
@@ -167,8 +249,8 @@ all-read (h ∷ hs) r sound =
     ∙ step h hs r sound
 
 pub reads-answer : (a : Answering) (e : Bool) (hs : List Happening)
-    → returned_by hs (expected a e) ++ left (after_happenings hs (expected a e)) ≡ answer a e hs
-reads-answer a e hs = all-read hs (expected a e) (record { open_is = refl; told = λ n. refl })
+    → returned_by hs (queued a e) ++ left (after_happenings hs (queued a e)) ≡ answer a e hs
+reads-answer a e hs = all-read hs (queued a e) (record { open_is = refl; told = λ n. refl })
 
 -- ---- messages of a datagram
 

@@ -10,7 +10,8 @@ use Rattle.neli_reader.specs.Cuts.{Cut, messages_before}
 use Rattle.neli_lent.specs.Messages.{Lent, lent_message, messages_in}
 use Rattle.neli_session.specs.declared.request.Request.{Request}
 use Rattle.neli_session.specs.Sessions.{after, after_all, gains, heard_of, is_heard, is_unasked, share}
-use Rattle.neli_session.specs.Sessions.{HaveCome, HaveComeBeforeLoss, among, unasked_of, with_loss}
+use Rattle.neli_session.specs.Sessions.{HaveCome, HaveComeBeforeLoss, among, unasked_of, when}
+use Rattle.neli_session.specs.declared.change.Change.TheVariants as change
 use Rattle.neli_session.specs.declared.loss.Loss.TheVariants as loss
 use Rattle.neli_session.specs.Messages.{IsMessage, IsWhole, messages_of}
 use Rattle.neli_session.specs.Waiting.{Item}
@@ -98,12 +99,12 @@ module _ (port group : ℕ) (joined : Bool) where
   -- and then a loss
   pub come-loss : (ms : List (Lent ℕ)) (awaited : List ℕ) (f g g' : ℕ → Option Request)
       (h h' h'' u u' u'' : Option (List Item)) → HaveCome port group joined ms f g h h' u u'
-      → ((q : ℕ) → g' q ≡ among awaited (with_loss loss.Datagram) q (g q))
+      → ((q : ℕ) → g' q ≡ among awaited (when (change.Lose loss.Datagram)) q (g q))
       → h'' ≡ gains (Err loss.Datagram ∷ []) h' → u'' ≡ gains (Err loss.Datagram ∷ []) u'
       → HaveComeBeforeLoss port group joined ms awaited f g' h h'' u u''
   come-loss ms awaited f g g' h h' h'' u u' u'' so_far own heard unasked = record {
     requests = λ q. own q
-        ∙ ap (λ (o : Option Request). among awaited (with_loss loss.Datagram) q o) (so_far.requests q);
+        ∙ ap (λ (o : Option Request). among awaited (when (change.Lose loss.Datagram)) q o) (so_far.requests q);
     heard = heard ∙ ap (λ (o : Option (List Item)). gains (Err loss.Datagram ∷ []) o) so_far.heard
         ∙ gains-twice (heard_of port group joined ms) (Err loss.Datagram ∷ []) h;
     unasked = unasked ∙ ap (λ (o : Option (List Item)). gains (Err loss.Datagram ∷ []) o) so_far.unasked

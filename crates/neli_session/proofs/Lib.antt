@@ -2,3 +2,5 @@ mod Messages
 mod Queues
 mod Datagrams
 mod AllRead
+mod Same
+mod Entries

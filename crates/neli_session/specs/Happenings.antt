@@ -1,20 +1,23 @@
 -- All that happens to one request, and what its reads return.
-use Rattle.std.specs.Prelude.{◌≡◌, ℕ, Bool, true, ◌&&◌, ◌||◌, ◌==◌, if◌then◌else◌, List, [], ◌∷◌, ◌++◌}
+use Rattle.std.specs.Prelude.{◌≡◌, ℕ, Bool, true, false, ◌&&◌, ◌||◌, ◌==◌, if◌then◌else◌, List, [], ◌∷◌, ◌++◌}
 use Rattle.std.specs.Prelude.{Option, Some, None, Ok, Err}
 use Rattle.neli_answers.specs.Answers.{ends_answer}
 use Rattle.neli_answers.specs.declared.answering.Answering.{Answering}
 use Rattle.neli_lent.specs.Messages.{Lent}
+use Rattle.neli_session.specs.declared.change.Change.{Change}
+use Rattle.neli_session.specs.declared.change.Change.TheVariants as change
 use Rattle.neli_session.specs.declared.loss.Loss.{Loss}
+use Rattle.neli_session.specs.declared.loss.Loss.TheVariants as loss
 use Rattle.neli_session.specs.declared.request.Request.{Request}
-use Rattle.neli_session.specs.Requests.{answers, heard, lost, next_item, passed, quiet, untold}
-use Rattle.neli_session.specs.Sessions.{after_all, expected, is_own}
+use Rattle.neli_session.specs.Requests.{answers, changed, heard, next_item, passed, untold}
+use Rattle.neli_session.specs.Sessions.{after_all, is_own, queued}
 use Rattle.neli_session.specs.Waiting.{Item}
 
--- a message with its number came, of this group or of none; something was lost; the link was seen empty; it was read
+-- a message with its number came, of this group or of none; it left, was sent or not, something was lost, or the link
+-- was seen empty; it was read
 pub data Happening : Type 0 where
   Came : ℕ → Lent ℕ → Happening
-  Lost : Loss → Happening
-  Emptied : Happening
+  Changed : Change → Happening
   Read : Happening
 
 -- as a list
@@ -31,8 +34,7 @@ loss_list (Some l) = Err l ∷ []
 -- the request after it
 abbrev pub then_is : Happening → Request → Request
 then_is (Came group m) r = if answers group r then heard m r else r
-then_is (Lost l) r = lost l r
-then_is Emptied r = quiet r
+then_is (Changed c) r = changed c r
 then_is Read r = passed r
 
 -- the item that a read returned, if it returned one
@@ -55,16 +57,29 @@ left r = r.waiting ++ loss_list (untold r)
 
 -- ---- by the whole of it
 
--- the answer: the messages for no group, or for any if its notifications are part of it, up to the first that ends it;
--- but up to the first loss, if that comes before, and then the loss; and nothing after the link was seen empty
+-- what comes once it left: the messages for no group, or for any if its notifications are part of it, up to the first
+-- that ends it; but up to the first loss, if that comes before, and then the loss; that it was not sent is one; and
+-- nothing after the link was seen empty since it was sent
+abbrev pub answer_since : Bool → Answering → Bool → List Happening → List Item
+answer_since sent a echoes [] = []
+answer_since sent a echoes (Came group m ∷ hs) =
+    if (group == 0) || echoes
+    then Ok m ∷ (if ends_answer a m.0.message_type m.0.flags then [] else answer_since sent a echoes hs)
+    else answer_since sent a echoes hs
+answer_since sent a echoes (Changed change.Leave ∷ hs) = answer_since sent a echoes hs
+answer_since sent a echoes (Changed change.Sent ∷ hs) = answer_since true a echoes hs
+answer_since true a echoes (Changed (change.Unsent errno) ∷ hs) = answer_since true a echoes hs
+answer_since false a echoes (Changed (change.Unsent errno) ∷ hs) = Err (loss.Unsent errno) ∷ []
+answer_since sent a echoes (Changed (change.Lose l) ∷ hs) = Err l ∷ []
+answer_since true a echoes (Changed change.Settle ∷ hs) = []
+answer_since false a echoes (Changed change.Settle ∷ hs) = answer_since false a echoes hs
+answer_since sent a echoes (Read ∷ hs) = answer_since sent a echoes hs
+
+-- the answer: nothing comes before it leaves
 abbrev pub answer : Answering → Bool → List Happening → List Item
 answer a echoes [] = []
-answer a echoes (Came group m ∷ hs) =
-    if (group == 0) || echoes then Ok m ∷ (if ends_answer a m.0.message_type m.0.flags then [] else answer a echoes hs)
-    else answer a echoes hs
-answer a echoes (Lost l ∷ hs) = Err l ∷ []
-answer a echoes (Emptied ∷ hs) = []
-answer a echoes (Read ∷ hs) = answer a echoes hs
+answer a echoes (Changed change.Leave ∷ hs) = answer_since false a echoes hs
+answer a echoes (h ∷ hs) = answer a echoes hs
 
 -- ---- what a call is for one request
 
@@ -83,9 +98,9 @@ DatagramsAreHappenings =
     (port group q : ℕ) (ms : List (Lent ℕ)) (r : Request) → r.is_open ≡ true
     → after_all port group ms q (Some r) ≡ Some (after_happenings (came_for port group q ms) r)
 
--- whatever happens to a request that was sent: what its reads returned, and then what is still to be read, is the
+-- whatever happens to a request that waits to be sent: what its reads returned, and then what is still to be read, is the
 -- answer, each item once and in order
 abbrev pub ReadsAreTheAnswer : Type 0
 ReadsAreTheAnswer =
     (a : Answering) (echoes : Bool) (hs : List Happening)
-    → returned_by hs (expected a echoes) ++ left (after_happenings hs (expected a echoes)) ≡ answer a echoes hs
+    → returned_by hs (queued a echoes) ++ left (after_happenings hs (queued a echoes)) ≡ answer a echoes hs

@@ -2,4 +2,6 @@ pub mod Messages
 pub mod Waiting
 pub mod Requests
 pub mod Sessions
+pub mod Mails
+pub mod Sends
 pub mod Happenings

@@ -7,7 +7,10 @@ use Rattle.neli_answers.specs.declared.answering.Answering.{Answering}
 use Rattle.neli_answers.specs.declared.answering.Answering.TheVariants as answered
 use Rattle.neli_reader.specs.Answers.{code_in}
 use Rattle.neli_lent.specs.Messages.{Lent}
+use Rattle.neli_session.specs.declared.change.Change.{Change}
+use Rattle.neli_session.specs.declared.change.Change.TheVariants as change
 use Rattle.neli_session.specs.declared.loss.Loss.{Loss}
+use Rattle.neli_session.specs.declared.loss.Loss.TheVariants as loss
 use Rattle.neli_session.specs.declared.request.Request.{Request}
 use Rattle.neli_session.specs.declared.request.Stage.{Stage}
 use Rattle.neli_session.specs.declared.request.Stage.TheVariants as stage
@@ -17,8 +20,9 @@ use Rattle.neli_session.specs.Waiting.{Item}
 
 -- ---- what comes
 
--- something may still come for it: it was sent, and its answer has not ended
+-- something may still come for it: the link sends it or has sent it, and its answer has not ended
 abbrev pub is_awaited : Stage → Bool
+is_awaited stage.Leaving = true
 is_awaited stage.Awaited = true
 is_awaited s = false
 
@@ -55,9 +59,38 @@ loss_after l r = if is_awaited r.stage && not (is_some r.loss) then Some l else 
 abbrev pub lost : Loss → Request → Request
 lost l r = record r { loss = loss_after l r }
 
+-- ---- how it leaves, and that nothing more comes
+
+-- the link sends it: its answer may come from now on
+abbrev pub left_at : Stage → Stage
+left_at stage.Queued = stage.Leaving
+left_at s = s
+
+-- the link has sent it
+abbrev pub sent_at : Stage → Stage
+sent_at stage.Leaving = stage.Awaited
+sent_at s = s
+
 -- the link was seen empty: nothing more comes for what was sent before
-abbrev pub quiet : Request → Request
-quiet r = record r { stage = if is_awaited r.stage then stage.Silent else r.stage }
+abbrev pub settled : Stage → Stage
+settled stage.Awaited = stage.Silent
+settled s = s
+
+-- the link has not sent it: that is lost, and nothing comes
+abbrev pub unsent_at : Stage → ℤ → Request → Request
+unsent_at stage.Leaving errno r = record (lost (loss.Unsent errno) r) { stage = stage.Silent }
+unsent_at s errno r = r
+
+abbrev pub unsent : ℤ → Request → Request
+unsent errno r = unsent_at r.stage errno r
+
+-- a request after what happens to it
+abbrev pub changed : Change → Request → Request
+changed change.Leave r = record r { stage = left_at r.stage }
+changed change.Sent r = record r { stage = sent_at r.stage }
+changed (change.Unsent errno) r = unsent errno r
+changed (change.Lose l) r = lost l r
+changed change.Settle r = record r { stage = settled r.stage }
 
 -- ---- what is read
 

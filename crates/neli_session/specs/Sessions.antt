@@ -5,6 +5,8 @@ use Rattle.std.specs.Option.{option_map}
 use Rattle.std.specs.HashMap.{HashMap, get}
 use Rattle.neli_answers.specs.declared.answering.Answering.{Answering}
 use Rattle.neli_lent.specs.Messages.{Lent, message_view}
+use Rattle.neli_session.specs.declared.change.Change.{Change}
+use Rattle.neli_session.specs.declared.change.Change.TheVariants as change
 use Rattle.neli_session.specs.declared.loss.Loss.{Loss}
 use Rattle.neli_session.specs.declared.loss.Loss.TheVariants as loss
 use Rattle.neli_session.specs.declared.reading.Next.{Next}
@@ -12,7 +14,7 @@ use Rattle.neli_session.specs.declared.reading.Next.TheVariants as next
 use Rattle.neli_session.specs.declared.request.Request.{Request}
 use Rattle.neli_session.specs.declared.request.Stage.TheVariants as stage
 use Rattle.neli_session.specs.declared.request.Verdict.TheVariants as stands
-use Rattle.neli_session.specs.Requests.{answers, first_item, heard, is_over, lost, next_item, passed, quiet}
+use Rattle.neli_session.specs.Requests.{answers, changed, first_item, heard, is_over, next_item, passed}
 use Rattle.neli_session.specs.Waiting.{Item}
 
 -- the request with a number, if it is in use
@@ -94,27 +96,23 @@ pub record HaveCome (port group : ℕ) (joined : Bool) (ms : List (Lent ℕ)) (o
   pub heard : heard_now ≡ gains (heard_of port group joined ms) heard_before
   pub unasked : unasked_now ≡ gains (unasked_of port group old ms) unasked_before
 
--- ---- losses, and an empty link
+-- ---- what happens to several requests
 
 -- the request with the number q, if it is one of these
 abbrev pub among : List ℕ → (Option Request → Option Request) → ℕ → Option Request → Option Request
 among [] f q o = o
 among (n ∷ ns) f q o = among ns f q (if n == q then f o else o)
 
--- a loss comes for a request
-abbrev pub with_loss : Loss → Option Request → Option Request
-with_loss l o = option_map (lost l) o
+-- a request after what happens to it
+abbrev pub when : Change → Option Request → Option Request
+when c o = kept (option_map (changed c) o)
 
 -- the same after these messages, and then a loss of the rest of their datagram
 pub record HaveComeBeforeLoss (port group : ℕ) (joined : Bool) (ms : List (Lent ℕ)) (awaited : List ℕ) (old new : ℕ
     → Option Request) (heard_before heard_now unasked_before unasked_now : Option (List Item)) : Type 0 where
-  pub requests : (q : ℕ) → new q ≡ among awaited (with_loss loss.Datagram) q (after_all port group ms q (old q))
+  pub requests : (q : ℕ) → new q ≡ among awaited (when (change.Lose loss.Datagram)) q (after_all port group ms q (old q))
   pub heard : heard_now ≡ gains (heard_of port group joined ms ++ Err loss.Datagram ∷ []) heard_before
   pub unasked : unasked_now ≡ gains (unasked_of port group old ms ++ Err loss.Datagram ∷ []) unasked_before
-
--- the link was seen empty
-abbrev pub when_quiet : Option Request → Option Request
-when_quiet o = kept (option_map quiet o)
 
 -- ---- what is read
 
@@ -168,12 +166,12 @@ closed_at o = kept (option_map closed o)
 
 -- ---- a request more
 
--- a request that was just sent: it is answered so, and its notifications are part of its answer or not
-abbrev pub expected : Answering → Bool → Request
-expected answering echoes = record {
+-- a request that waits to be sent: it is answered so, and its notifications are part of its answer or not
+abbrev pub queued : Answering → Bool → Request
+queued answering echoes = record {
   answering = answering;
   echoes = echoes;
-  stage = stage.Awaited;
+  stage = stage.Queued;
   is_open = true;
   waiting = [];
   loss = None;

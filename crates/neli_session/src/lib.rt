@@ -1,7 +1,8 @@
 //! A session: what a client of the kernel needs beside the bytes of its messages. It has no socket: the caller hands in
 //! what came, and what the link reported.
 //!
-//! - [`Session::expect`]: a request was sent, and its answer is awaited.
+//! - [`Session::request`], [`Session::send`]: a request waits to be sent; [`Session::next_outgoing`] chooses the
+//!   datagram to send next, [`Session::outgoing`] lends it, and [`Session::sent`] or [`Session::not_sent`] says what became of it. Dumps take turns.
 //! - [`Session::receive`], [`Session::fault`], [`Session::quiet`]: a datagram came, the link failed, or was seen empty.
 //! - [`Session::next`] lends a reader's next item; `pass_answer`, `pass_multicast` and `pass_unasked` go on.
 //! - [`Session::verdict`]: whether all of an answer was read, and nothing of it was lost.
@@ -9,21 +10,26 @@
 //!
 //! A message goes to the request that it answers, to multicast, to both if it is the notification of the session's own
 //! change, or else to the reader of what nobody asked for. It is kept once for each of them. Where an answer ends is
-//! decided by its [`Answering`], which the caller takes from the table of neli_answers. What is lost is told once to each
+//! decided by its [`Answering`], by the table of neli_answers. What is lost is told once to each
 //! request that was awaited, after the messages before it, and in its place to the other two readers.
 //!
-//! `specs/Requests.antt` defines what comes for a request and the verdict; `specs/Sessions.antt` the receivers of a
-//! message, a datagram, a loss, and what a read returns.
+//! `specs/Requests.antt` defines what comes for a request and the verdict; `specs/Sends.antt` what waits to be sent and
+//! which of it goes next; `specs/Sessions.antt` the receivers of a message, a datagram, a loss, and what a read returns.
 #![tactic(auto)]
 
+mod change;
 mod chunk;
+mod entry;
+mod frame;
 pub mod laws;
 mod loss;
+mod outbox;
 mod queue;
 mod reading;
 mod receiving;
 mod request;
 mod requests;
+mod sending;
 mod session;
 mod spans;
 
@@ -32,4 +38,5 @@ pub use neli_answers::Answering;
 pub use reading::{Next, Reader};
 pub use receiving::Untaken;
 pub use request::Verdict;
-pub use session::{ExpectError, Session};
+pub use sending::SendError;
+pub use session::Session;

@@ -2,6 +2,7 @@
 
 ghost use Rattle.std.specs.Prelude.{◌≡◌, ℕ, None, Some, IfSome, IsNone, false, nat_eq, option_map};
 ghost use Rattle.neli_session.specs.Requests.{verdict_of};
+ghost use Rattle.neli_session.specs.Sends.{SameSending};
 ghost use Rattle.neli_session.specs.Sessions.{IsReplyOf, IsReplyOfQueue, at, closed_at, passed_at, without_first};
 
 use crate::queue::Queue;
@@ -105,8 +106,7 @@ impl Session {
             → at self.new.requests q ≡ at self.old.requests q }
         ensures multicast { self.new.multicast ≡ self.old.multicast }
         ensures unasked { self.new.unasked ≡ self.old.unasked }
-        ensures awaited { self.new.awaited ≡ self.old.awaited }
-        ensures port { self.new.port ≡ self.old.port }
+        ensures sending { SameSending self.old self.new }
     {
         pass(&mut self.requests, number);
     }
@@ -116,8 +116,7 @@ impl Session {
         ensures multicast { self.new.multicast ≡ without_first self.old.multicast }
         ensures requests { self.new.requests ≡ self.old.requests }
         ensures unasked { self.new.unasked ≡ self.old.unasked }
-        ensures awaited { self.new.awaited ≡ self.old.awaited }
-        ensures port { self.new.port ≡ self.old.port }
+        ensures sending { SameSending self.old self.new }
     {
         pass_in(&mut self.multicast);
     }
@@ -127,8 +126,7 @@ impl Session {
         ensures unasked { self.new.unasked ≡ without_first self.old.unasked }
         ensures requests { self.new.requests ≡ self.old.requests }
         ensures multicast { self.new.multicast ≡ self.old.multicast }
-        ensures awaited { self.new.awaited ≡ self.old.awaited }
-        ensures port { self.new.port ≡ self.old.port }
+        ensures sending { SameSending self.old self.new }
     {
         pass_in(&mut self.unasked);
     }
@@ -151,8 +149,7 @@ impl Session {
             → at self.new.requests q ≡ at self.old.requests q }
         ensures multicast { self.new.multicast ≡ self.old.multicast }
         ensures unasked { self.new.unasked ≡ self.old.unasked }
-        ensures awaited { self.new.awaited ≡ self.old.awaited }
-        ensures port { self.new.port ≡ self.old.port }
+        ensures sending { SameSending self.old self.new }
     {
         close(&mut self.requests, number);
     }

@@ -1,14 +1,20 @@
 //! What comes from the link.
 
-ghost use Rattle.std.specs.Prelude.{◌≡◌, ◌≤◌, ◌<◌, ◌+◌, ◌∷◌, ℕ, [], Err, Some, IfErr, OnOk, OnErr, length, take};
+ghost use Rattle.std.specs.Prelude.{◌≡◌, ◌≤◌, ◌<◌, ◌+◌, ◌∷◌, ◌||◌, ℕ, pos, [], Err, Some, IfErr, OnOk, OnErr, length, take};
+ghost use Rattle.std.specs.Ordering.{int_eq};
 ghost use Rattle.neli_wire.specs.declared.errors.DeError.{DeError};
 ghost use Rattle.neli_lent.specs.Messages.{messages_in};
 ghost use Rattle.neli_session.specs.Messages.{IsWhole, messages_of};
-ghost use Rattle.neli_session.specs.Sessions.{HaveCome, HaveComeBeforeLoss, among, at, gains, with_loss};
+ghost use Rattle.neli_session.specs.Sends.{SameNames, SameParcels, SameSending};
+ghost use Rattle.neli_session.specs.Sessions.{HaveCome, HaveComeBeforeLoss, among, at, gains, when};
 
+use crate::change::Change;
 use crate::spans::span_at;
 use crate::{Loss, Session};
 use neli_wire::NoMemory;
+
+/// The fault of a link that has dropped something: no buffer space (`ENOBUFS` of `asm-generic/errno.h`).
+const ENOBUFS: i32 = 105;
 
 /// Memory ran out within a datagram: its first messages were taken in, those before this place.
 #[derive(Clone, Copy, Debug, PartialEq, Eq)]
@@ -38,8 +44,7 @@ impl Session {
             × HaveCome self.old.port group is_joined (messages_of (take u.taken datagram.now))
             (at self.old.requests) (at self.new.requests) self.old.multicast self.new.multicast
             self.old.unasked self.new.unasked) }
-        ensures awaited { self.new.awaited ≡ self.old.awaited }
-        ensures port { self.new.port ≡ self.old.port }
+        ensures sending { SameSending self.old self.new }
     {
         let mut place = 0;
         while place < datagram.len() {
@@ -58,21 +63,31 @@ impl Session {
     }
 
     /// Notes a fault of the link: its errno, as 105 for `ENOBUFS`. Requests that are awaited, and the readers of
-    /// multicast and of messages that answer no request, get it as a loss, in its place.
+    /// multicast and of messages that answer no request, get it as a loss, in its place. After `ENOBUFS` nothing goes out
+    /// until the link was seen empty.
     ///
     /// Refused only if memory runs out; then nothing changes.
     pub fn fault(&mut self, errno: i32) -> Result<(), NoMemory>
         ensures requests { OnOk result ((q : ℕ) → at self.new.requests q
-            ≡ among self.old.awaited.items (with_loss (Loss.Link errno)) q (at self.old.requests q)) }
+            ≡ among self.old.awaited.items (when (Change.Lose (Loss.Link errno))) q
+            (at self.old.requests q)) }
         ensures multicast { OnOk result (self.new.multicast
             ≡ gains (Err (Loss.Link errno) ∷ []) self.old.multicast) }
         ensures unasked { OnOk result (self.new.unasked
             ≡ gains (Err (Loss.Link errno) ∷ []) self.old.unasked) }
+        ensures congested { OnOk result
+            (self.new.is_congested ≡ (int_eq errno (pos 105) || self.old.is_congested)) }
+        ensures names { SameNames self.old self.new }
+        ensures parcels { SameParcels self.old self.new }
         ensures awaited { self.new.awaited ≡ self.old.awaited }
-        ensures port { self.new.port ≡ self.old.port }
         ensures unchanged { OnErr result ((self.new.requests ≡ self.old.requests)
-            × (self.new.multicast ≡ self.old.multicast) × (self.new.unasked ≡ self.old.unasked)) }
+            × (self.new.multicast ≡ self.old.multicast) × (self.new.unasked ≡ self.old.unasked)
+            × (self.new.is_congested ≡ self.old.is_congested)) }
     {
-        self.lose(Loss::Link(errno))
+        self.lose(Loss::Link(errno))?;
+        if errno == ENOBUFS {
+            self.is_congested = true;
+        }
+        Ok(())
     }
 }

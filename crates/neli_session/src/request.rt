@@ -1,15 +1,18 @@
 //! A request: what comes for it, until nothing more can come.
 
-ghost use Rattle.std.specs.Prelude.{◌≡◌, ◌++◌, ◌∷◌, [], None, Ok, if◌then◌else◌, OnErr, OnOk, true, false, option_map};
+ghost use Rattle.std.specs.Prelude.{◌≡◌, ◌++◌, ◌∷◌, [], None, Ok, Some, if◌then◌else◌, OnErr, OnOk, true, false, option_map};
 ghost use Rattle.neli_lent.specs.Messages.{message_view};
 ghost use Rattle.neli_answers.specs.Answers.{ends_answer};
 ghost use Rattle.neli_session.specs.Messages.{IsMessage};
 ghost use Rattle.neli_session.specs.Waiting.{lent_item};
-ghost use Rattle.neli_session.specs.Requests.{answers, code_of, code_or_zero, end_verdict, heard, is_awaited, is_over};
-ghost use Rattle.neli_session.specs.Requests.{item_verdict, lost, message_verdict, next_item, passed, quiet, verdict_of};
-ghost use Rattle.neli_session.specs.Sessions.{closed, expected, has_ended};
+ghost use Rattle.neli_session.specs.Requests.{answers, changed, code_of, code_or_zero, end_verdict, heard, is_awaited};
+ghost use Rattle.neli_session.specs.Requests.{is_over, item_verdict, left_at, lost, message_verdict, next_item, passed};
+ghost use Rattle.neli_session.specs.Requests.{sent_at, settled, unsent, verdict_of};
+ghost use Rattle.neli_session.specs.Sends.{is_running};
+ghost use Rattle.neli_session.specs.Sessions.{closed, has_ended, queued};
 
 use crate::Loss;
+use crate::change::Change;
 use crate::queue::Queue;
 use bitflags::Flags;
 use byteorder::{ByteOrder, LittleEndian};
@@ -22,6 +25,10 @@ use std::alloc::Global;
 /// How far the answer to a request has come.
 #[derive(Clone, Copy, Debug, PartialEq, Eq)]
 pub(crate) enum Stage {
+    /// It waits to be sent.
+    Queued,
+    /// The link sends it, and something may come.
+    Leaving,
     /// It was sent, and something may still come.
     Awaited,
     /// The message that ends it has come.
@@ -35,7 +42,7 @@ impl Stage {
     pub(crate) fn is_awaited(self) -> bool
         ensures { result ≡ is_awaited self }
     {
-        matches!(self, Stage::Awaited)
+        matches!(self, Stage::Leaving | Stage::Awaited)
     }
 
     /// Whether nothing comes any more.
@@ -43,6 +50,36 @@ impl Stage {
         ensures { result ≡ is_over self }
     {
         matches!(self, Stage::Ended | Stage::Silent)
+    }
+
+    /// The stage once the link sends the request.
+    fn left(self) -> Stage
+        ensures { result ≡ left_at self }
+    {
+        match self {
+            Stage::Queued => Stage::Leaving,
+            stage => stage,
+        }
+    }
+
+    /// The stage once the link has sent it.
+    fn sent(self) -> Stage
+        ensures { result ≡ sent_at self }
+    {
+        match self {
+            Stage::Leaving => Stage::Awaited,
+            stage => stage,
+        }
+    }
+
+    /// The stage once the link was seen empty.
+    fn settled(self) -> Stage
+        ensures { result ≡ settled self }
+    {
+        match self {
+            Stage::Awaited => Stage::Silent,
+            stage => stage,
+        }
     }
 }
 
@@ -58,7 +95,7 @@ pub enum Verdict {
     Interrupted,
     /// The other side answered with an error, or ended a dump with one: the code, as -19 for `ENODEV`.
     Failed(i32),
-    /// Something was lost while it was awaited.
+    /// Something was lost while it was awaited, or it was not sent.
     Lost(Loss),
     /// The link was seen empty before its end: nothing more comes.
     Unanswered,
@@ -142,14 +179,14 @@ fn end_verdict(stage: Stage, answering: Answering) -> Verdict
 }
 
 impl Request {
-    /// A request that was just sent. It takes no memory.
+    /// A request that waits to be sent. It takes no memory.
     pub(crate) fn new(alloc: Global, answering: Answering, echoes: bool) -> Request
-        ensures { result ≡ expected answering echoes }
+        ensures { result ≡ queued answering echoes }
     {
         Request {
             answering,
             echoes,
-            stage: Stage::Awaited,
+            stage: Stage::Queued,
             is_open: true,
             waiting: Queue::new(alloc),
             loss: None,
@@ -220,7 +257,7 @@ impl Request {
     }
 
     /// Notes a loss.
-    pub(crate) fn lose(&mut self, loss: Loss)
+    fn lose(&mut self, loss: Loss)
         ensures { self.new ≡ lost loss self.old }
     {
         if self.stage.is_awaited() && self.loss.is_none() {
@@ -259,6 +296,13 @@ impl Request {
         }
     }
 
+    /// Whether it is a dump that runs.
+    pub(crate) fn is_running(&self) -> bool
+        ensures { result ≡ is_running (Some self.now) }
+    {
+        matches!(self.answering, Answering::Dump) && self.stage.is_awaited()
+    }
+
     /// Whether no item follows those that wait.
     pub(crate) fn has_ended(&self) -> bool
         ensures { result ≡ has_ended self.now }
@@ -287,12 +331,26 @@ impl Request {
         }
     }
 
-    /// Notes that the link was seen empty.
-    pub(crate) fn settle(&mut self)
-        ensures { self.new ≡ quiet self.old }
+    /// Notes that the link has not sent it.
+    fn fail(&mut self, errno: i32)
+        ensures { self.new ≡ unsent errno self.old }
     {
-        if self.stage.is_awaited() {
+        if self.stage == Stage::Leaving {
+            self.lose(Loss::Unsent(errno));
             self.stage = Stage::Silent;
+        }
+    }
+
+    /// Notes what happens to it.
+    pub(crate) fn change(&mut self, change: Change)
+        ensures { self.new ≡ changed change self.old }
+    {
+        match change {
+            Change::Leave => self.stage = self.stage.left(),
+            Change::Sent => self.stage = self.stage.sent(),
+            Change::Unsent(errno) => self.fail(errno),
+            Change::Lose(loss) => self.lose(loss),
+            Change::Settle => self.stage = self.stage.settled(),
         }
     }
 }

@@ -1,17 +1,19 @@
 //! The session.
 
-ghost use Rattle.std.specs.Prelude.{◌≡◌, ◌↔◌, ◌++◌, ◌∷◌, ℕ, true, false, Err, None, Some, IsErrOf, is_some, nat_eq, [], OnErr, OnOk, not, ◌==◌};
+ghost use Rattle.std.specs.Prelude.{◌≡◌, ◌∷◌, ℕ, true, false, Err, None, Some, is_some, [], OnErr, OnOk, not, ◌==◌};
 ghost use Rattle.neli_lent.specs.Messages.{message_view};
 ghost use Rattle.neli_session.specs.Messages.{IsMessage};
-ghost use Rattle.neli_session.specs.Sessions.{after, among, at, expected, gains, is_heard, is_unasked, kept_queue};
-ghost use Rattle.neli_session.specs.Sessions.{share, when_quiet, with_loss};
+ghost use Rattle.neli_session.specs.Sessions.{after, among, at, gains, is_heard, is_unasked, kept_queue, share, when};
+ghost use Rattle.neli_session.specs.Sends.{SameSending};
 
 use crate::Loss;
+use crate::change::Change;
+use crate::outbox::Parcel;
 use crate::queue::Queue;
 use crate::request::Request;
-use crate::requests::{hear, hear_with, lose_all, settle_all};
+use crate::requests::{change_all, hear, hear_with};
 use indexmap::IndexMap;
-use neli_answers::Answering;
+use neli_consts_system::NlFamily;
 use neli_lent::LentMessage;
 use neli_wire::NoMemory;
 use std::alloc::Global;
@@ -19,25 +21,27 @@ use std::alloc::Global;
 /// A session over one socket: its requests, and what its readers have not read yet.
 #[derive(Drop)]
 pub struct Session {
-    alloc: Global,
+    pub(crate) alloc: Global,
+    pub(crate) protocol: NlFamily,
     pub(crate) port: u32,
+    /// The number to try first for a request.
+    pub(crate) next_number: u32,
     /// The requests whose numbers are in use.
     pub(crate) requests: IndexMap<u32, Request>,
-    /// The numbers of the requests that are awaited, and maybe of others.
+    /// The numbers of the requests that are queued or awaited, and maybe of others.
     pub(crate) awaited: Vec<u32>,
+    /// The datagrams that wait to be sent.
+    pub(crate) outbox: Vec<Parcel>,
+    /// The datagram that the link sends.
+    pub(crate) leaving: Option<Parcel>,
+    /// The number of the dump that went out last.
+    pub(crate) running: Option<u32>,
+    /// Whether the link has dropped something, and was not seen empty since.
+    pub(crate) is_congested: bool,
     /// What waits for the reader of multicast; none where it is closed.
     pub(crate) multicast: Option<Queue>,
     /// What waits for the reader of messages that answer no request; none where they are not kept.
     pub(crate) unasked: Option<Queue>,
-}
-
-/// Why a request is not expected.
-#[derive(Clone, Copy, Debug, PartialEq, Eq)]
-pub enum ExpectError {
-    /// Something may still come for another request with this number, or somebody still reads its answer.
-    InUse,
-    /// Memory ran out.
-    Memory,
 }
 
 /// Appends a message to a queue, if it is there. Refused only if memory runs out; then nothing changes.
@@ -75,12 +79,18 @@ fn lose_to(one: &mut Option<Queue>, other: &mut Option<Queue>, loss: Loss) -> Re
 }
 
 impl Session {
-    /// A session of a socket with this port, which keeps what comes to groups, and what answers no request if
-    /// `keeps_unasked`. It takes no memory.
-    pub fn new(alloc: Global, port: u32, keeps_unasked: bool) -> Session
+    /// A session of a socket of this protocol with this port, which keeps what comes to groups, and what answers no
+    /// request if `keeps_unasked`. It takes no memory.
+    pub fn new(alloc: Global, protocol: NlFamily, port: u32, keeps_unasked: bool) -> Session
+        ensures protocol { result.protocol ≡ protocol }
         ensures port { result.port ≡ port }
+        ensures number { result.next_number ≡ 0 }
         ensures requests { (q : ℕ) → at result.requests q ≡ None }
         ensures awaited { result.awaited.items ≡ [] }
+        ensures outbox { result.outbox.items ≡ [] }
+        ensures leaving { result.leaving ≡ None }
+        ensures running { result.running ≡ None }
+        ensures congested { result.is_congested ≡ false }
         ensures multicast { result.multicast ≡ Some [] }
         ensures unasked { result.unasked ≡ kept_queue keeps_unasked }
     {
@@ -91,58 +101,26 @@ impl Session {
         };
         Session {
             alloc,
+            protocol,
             port,
+            next_number: 0,
             requests: IndexMap::new(alloc),
             awaited: Vec::new(alloc),
+            outbox: Vec::new(alloc),
+            leaving: None,
+            running: None,
+            is_congested: false,
             multicast: Some(Queue::new(alloc)),
             unasked,
         }
     }
 
-    /// Whether a sequence number is in use: something may still come for its request, or its answer is still read.
+    /// Whether a sequence number is in use: its request is still to be sent, something may still come for it, or its
+    /// answer is still read.
     pub fn is_in_use(&self, number: u32) -> bool
         ensures { result ≡ is_some (at self.now.requests number) }
     {
         self.requests.contains_key(&number)
-    }
-
-    /// Expects the answer to a request that was sent with this sequence number: how it is answered, and whether it has
-    /// the flag `NLM_F_ECHO`.
-    ///
-    /// Refused as `InUse` if the number is in use, or as `Memory`; then nothing changes.
-    pub fn expect(
-        &mut self,
-        number: u32,
-        answering: Answering,
-        echoes: bool,
-    ) -> Result<(), ExpectError>
-        ensures own { OnOk result (at self.new.requests number ≡ Some (expected answering echoes)) }
-        ensures others { OnOk result ((q : ℕ) → nat_eq number q ≡ false
-            → at self.new.requests q ≡ at self.old.requests q) }
-        ensures awaited { OnOk result
-            (self.new.awaited.items ≡ self.old.awaited.items ++ number ∷ []) }
-        ensures in_use { IsErrOf result ExpectError.InUse
-            ↔ (is_some (at self.old.requests number) ≡ true) }
-        ensures multicast { self.new.multicast ≡ self.old.multicast }
-        ensures unasked { self.new.unasked ≡ self.old.unasked }
-        ensures port { self.new.port ≡ self.old.port }
-        ensures unchanged { OnErr result (((q : ℕ) → at self.new.requests q ≡ at self.old.requests q)
-            × (self.new.awaited.items ≡ self.old.awaited.items)) }
-    {
-        if self.is_in_use(number) {
-            return Err(ExpectError::InUse);
-        }
-        if self.awaited.push(number).is_err() {
-            return Err(ExpectError::Memory);
-        }
-        let request = Request::new(self.alloc, answering, echoes);
-        match self.requests.insert(number, request) {
-            Ok(_) => Ok(()),
-            Err(_) => {
-                let _ = self.awaited.pop();
-                Err(ExpectError::Memory)
-            }
-        }
     }
 
     /// Closes multicast: nothing of it is kept any more.
@@ -150,8 +128,7 @@ impl Session {
         ensures multicast { self.new.multicast ≡ None }
         ensures requests { self.new.requests ≡ self.old.requests }
         ensures unasked { self.new.unasked ≡ self.old.unasked }
-        ensures awaited { self.new.awaited ≡ self.old.awaited }
-        ensures port { self.new.port ≡ self.old.port }
+        ensures sending { SameSending self.old self.new }
     {
         self.multicast = None;
     }
@@ -173,8 +150,7 @@ impl Session {
         ensures unasked { OnOk result (self.new.unasked
             ≡ gains (share (is_unasked self.old.port group (at self.old.requests)
             (message_view message.now)) (message_view message.now)) self.old.unasked) }
-        ensures awaited { self.new.awaited ≡ self.old.awaited }
-        ensures port { self.new.port ≡ self.old.port }
+        ensures sending { SameSending self.old self.new }
         ensures unchanged { OnErr result (((q : ℕ) → at self.new.requests q ≡ at self.old.requests q)
             × (self.new.multicast ≡ self.old.multicast) × (self.new.unasked ≡ self.old.unasked)) }
     {
@@ -200,32 +176,17 @@ impl Session {
     /// request, get it. Refused only if memory runs out; then nothing changes.
     pub(crate) fn lose(&mut self, loss: Loss) -> Result<(), NoMemory>
         ensures requests { OnOk result ((q : ℕ) → at self.new.requests q
-            ≡ among self.old.awaited.items (with_loss loss) q (at self.old.requests q)) }
+            ≡ among self.old.awaited.items (when (Change.Lose loss)) q (at self.old.requests q)) }
         ensures multicast { OnOk result (self.new.multicast
             ≡ gains (Err loss ∷ []) self.old.multicast) }
         ensures unasked { OnOk result (self.new.unasked ≡ gains (Err loss ∷ []) self.old.unasked) }
-        ensures awaited { self.new.awaited ≡ self.old.awaited }
-        ensures port { self.new.port ≡ self.old.port }
+        ensures sending { SameSending self.old self.new }
         ensures unchanged { OnErr result ((self.new.requests ≡ self.old.requests)
             × (self.new.multicast ≡ self.old.multicast) × (self.new.unasked ≡ self.old.unasked)) }
     {
         lose_to(&mut self.multicast, &mut self.unasked, loss)?;
-        lose_all(&mut self.requests, &self.awaited, loss);
+        change_all(&mut self.requests, &self.awaited, Change::Lose(loss));
         Ok(())
-    }
-
-    /// Notes that the link was seen empty: the other side answers while a request is sent, and goes on with a dump
-    /// whenever the link is received from, so nothing more comes for what was sent before.
-    pub fn quiet(&mut self)
-        ensures requests { (q : ℕ) → at self.new.requests q
-            ≡ among self.old.awaited.items when_quiet q (at self.old.requests q) }
-        ensures multicast { self.new.multicast ≡ self.old.multicast }
-        ensures unasked { self.new.unasked ≡ self.old.unasked }
-        ensures awaited { self.new.awaited.items ≡ [] }
-        ensures port { self.new.port ≡ self.old.port }
-    {
-        settle_all(&mut self.requests, &self.awaited);
-        self.awaited.clear();
     }
 
     /// Takes in a message with another port than the session's.
@@ -241,8 +202,7 @@ impl Session {
         ensures unasked { OnOk result (self.new.unasked
             ≡ gains (share (group == 0) (message_view message.now)) self.old.unasked) }
         ensures requests { self.new.requests ≡ self.old.requests }
-        ensures awaited { self.new.awaited ≡ self.old.awaited }
-        ensures port { self.new.port ≡ self.old.port }
+        ensures sending { SameSending self.old self.new }
         ensures unchanged { OnErr result ((self.new.multicast ≡ self.old.multicast)
             × (self.new.unasked ≡ self.old.unasked)) }
     {

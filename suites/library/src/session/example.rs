@@ -3,31 +3,68 @@
 use super::script::bytes_of;
 use neli::consts::nl::NlmF;
 use neli::consts::socket::NlFamily;
-use neli::session::{Answering, Next, Reader, Session, Verdict};
+use neli::session::{Next, Reader, SendError, Session, Untaken, Verdict};
+use std::alloc::Global;
+use std::process::Abort;
 
 /// Recording 0165: a proxy neighbour, and the end of the dump.
 const NEIGHBOUR: &str =
     "240000001c000200f40300009a413db902000000030000000000080108000100c000024d1400000003000200\
     f40300009a413db900000000";
 
+/// The request of that recording: `RTM_GETNEIGH` with a body of zeros, by `linux/netlink.h` and `linux/neighbour.h`.
+const REQUEST: &[u8] = b"\x1c\0\0\0\x1e\0\x01\x03\xf4\x03\0\0\x9a\x41\x3d\xb9\0\0\0\0\0\0\0\0\0\0\0\0";
+
+/// Why the dump was not read.
+#[derive(Clone, Copy, Debug)]
+enum Refusal {
+    Send(SendError),
+    Receive(Untaken),
+}
+
+impl From<SendError> for Refusal {
+    fn from(error: SendError) -> Refusal {
+        Refusal::Send(error)
+    }
+}
+
+impl From<Untaken> for Refusal {
+    fn from(untaken: Untaken) -> Refusal {
+        Refusal::Receive(untaken)
+    }
+}
+
+/// Requests a dump, and reads this datagram as its answer: whether it is whole, and the bytes of its payloads.
+fn read_dump(
+    rt: &impl Abort,
+    alloc: Global,
+    port: u32,
+    datagram: &[u8],
+) -> Result<(bool, usize), Refusal> {
+    let mut bytes = 0;
+    let mut session = Session::new(alloc, NlFamily::Route, port, false);
+    session.set_number(1012);
+    let number = session.request(30, NlmF::DUMP, &[0; 12])?;
+    while session.next_outgoing() {
+        // Your link sends what `session.outgoing()` lends.
+        assert_eq!(rt; session.outgoing(), Some(REQUEST));
+        session.sent();
+    }
+    session.receive(datagram, 0, false)?;
+    session.quiet();
+    while let Next::Message(message) = session.next(Reader::Request(number)) {
+        bytes += message.nl_payload().len();
+        session.pass_answer(number);
+    }
+    let is_whole = session.verdict(number) == Some(Verdict::Complete);
+    session.close(number);
+    assert!(rt; !session.is_in_use(number));
+    Ok((is_whole, bytes))
+}
+
 #[test]
 fn a_dump_is_read_to_its_end(rt: HostRuntime) {
-    let (alloc, port) = (rt.alloc(), 3107799450);
-    let datagram = bytes_of(&rt, alloc, NEIGHBOUR);
-    let mut bytes = 0;
-    let mut session = Session::new(alloc, port, false);
-    let answering = Answering::of(NlFamily::Route, 30, NlmF::DUMP, 12);
-    session
-        .expect(1012, answering, false)
-        .expect(&rt, "a number");
-    session.receive(&datagram, 0, false).expect(&rt, "memory");
-    while let Next::Message(message) = session.next(Reader::Request(1012)) {
-        bytes += message.nl_payload().len();
-        session.pass_answer(1012);
-    }
-    let is_whole = session.verdict(1012) == Some(Verdict::Complete);
-    session.close(1012);
-    assert!(rt; is_whole);
-    assert_eq!(rt; bytes, 24);
-    assert!(rt; !session.is_in_use(1012));
+    let datagram = bytes_of(&rt, rt.alloc(), NEIGHBOUR);
+    let read = read_dump(&rt, rt.alloc(), 3107799450, &datagram);
+    assert!(rt; matches!(read, Ok((true, 24))), "{read:?}");
 }

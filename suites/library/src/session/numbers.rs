@@ -107,7 +107,7 @@ pub const SCRIPTS: [Script; 6] = [
         7,
         &[
             Sent(0, NlFamily::Route, 18, 0x301, 16),
-            Sent(1, NlFamily::Route, 18, 0x301, 16),
+            Sent(1, NlFamily::Route, 18, 1, 16),
             Close(1),
             Close(2),
             Came(ALL),

@@ -2,7 +2,7 @@
 //! datagram from the bytes on that were not taken in, and all reads return what they return without a refusal.
 
 use super::script::{Grouping, Script, play};
-use super::{answers, numbers, readers};
+use super::{answers, numbers, readers, turns};
 use std::alloc::Global;
 use std::process::Abort;
 
@@ -25,4 +25,9 @@ fn readers_go_on_after_out_of_memory(rt: HostRuntime) {
 #[test]
 fn numbers_are_used_after_out_of_memory(rt: HostRuntime) {
     play_all(&rt, rt.alloc(), &numbers::SCRIPTS);
+}
+
+#[test]
+fn requests_take_turns_after_out_of_memory(rt: HostRuntime) {
+    play_all(&rt, rt.alloc(), &turns::SCRIPTS);
 }

@@ -1,11 +1,17 @@
 //! All scripts, as they are written, and with each datagram regrouped in two.
 
 use super::script::{Grouping, Script, play};
-use super::{answers, numbers, readers};
+use super::{answers, numbers, readers, turns};
+use neli::consts::socket::NlFamily;
 use neli::session::{Next, Reader, Session};
 
 /// The scripts of all tables.
-pub const TABLES: [&[Script]; 3] = [&answers::SCRIPTS, &readers::SCRIPTS, &numbers::SCRIPTS];
+pub const TABLES: [&[Script]; 4] = [
+    &answers::SCRIPTS,
+    &readers::SCRIPTS,
+    &numbers::SCRIPTS,
+    &turns::SCRIPTS,
+];
 
 #[test]
 fn reads_return_what_came(rt: HostRuntime) {
@@ -23,7 +29,7 @@ fn regrouped_datagrams_give_the_same_reads(rt: HostRuntime) {
 
 #[test]
 fn what_nobody_asked_for_is_kept_where_wanted_alone(rt: HostRuntime) {
-    let mut session = Session::new(rt.alloc(), 7, false);
+    let mut session = Session::new(rt.alloc(), NlFamily::Route, 7, false);
     let stray = b"\x10\0\0\0\x10\0\0\0\x09\0\0\0\x07\0\0\0";
     assert!(rt; session.receive(stray, 0, false).is_ok());
     assert!(rt; matches!(session.next(Reader::Unasked), Next::Closed));

@@ -4,7 +4,7 @@
 
 use super::script::Script;
 use super::script::Step::{
-    Answer, Came, CameFor, CloseMulticast, Fault, Heard, Quiet, Sent, Stands, Unasked,
+    Answer, Came, CameFor, CloseMulticast, Fault, Goes, Heard, Queued, Quiet, Sent, Stands, Unasked, Went,
 };
 use super::script::Told::{Closed, End, Lost, Message, Waits};
 use neli::consts::socket::NlFamily;
@@ -138,8 +138,12 @@ pub const SCRIPTS: [Script; 13] = [
             Sent(0, NlFamily::Route, 18, 0x301, 16),
             Came(TWO),
             Fault(105),
-            Sent(1, NlFamily::Route, 18, 0x301, 16),
+            Queued(1, NlFamily::Route, 18, 0x301, 16),
             Came(PART_AND_DONE),
+            Goes(None),
+            Quiet,
+            Goes(Some(1)),
+            Went,
             Came(DONE_OF_1),
             Answer(0, Message(16, 0)),
             Answer(0, Message(16, 0)),

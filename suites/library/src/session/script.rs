@@ -2,7 +2,7 @@
 
 use neli::consts::nl::NlmF;
 use neli::consts::socket::NlFamily;
-use neli::session::{Answering, ExpectError, Loss, Next, Reader, Session, Verdict};
+use neli::session::{Answering, Loss, Next, Reader, SendError, Session, Verdict};
 use std::alloc::Global;
 use std::fmt::Debug;
 use std::process::Abort;
@@ -12,10 +12,19 @@ pub type Script = (&'static str, u32, &'static [Step]);
 
 #[derive(Clone, Copy, Debug)]
 pub enum Step {
-    /// A request is sent: its number, protocol, type, flags, and the length of its body.
+    /// A request is sent, and the link sends it: its number, protocol, type, flags, and the length of its body.
     Sent(u32, NlFamily, u16, u16, usize),
+    /// A request is sent, and waits: the same.
+    Queued(u32, NlFamily, u16, u16, usize),
+    /// Requests are sent as one datagram, which these bytes are, with this result.
+    All(&'static str, Result<(), SendError>),
     /// A request with this number is refused, as the number is in use.
     Refused(u32),
+    /// The datagram to send next: the number of its first request, if one may go out.
+    Goes(Option<u32>),
+    /// The link has sent it, or has not, with this errno.
+    Went,
+    Failed(i32),
     /// A datagram comes for no group.
     Came(&'static str),
     /// A datagram comes for this group, in which the socket is or not.
@@ -74,16 +83,58 @@ pub fn bytes_of(rt: &impl Abort, alloc: Global, text: &str) -> Vec<u8> {
     }
 }
 
-/// Expects an answer, once more if memory ran out.
-fn expect(
+/// A request with a body of zeros, which may have 48 bytes.
+fn request(number: u32, nl_type: u16, flags: u16, length: usize) -> [u8; 64] {
+    let mut bytes = [0; 64];
+    bytes[0] = (16 + length) as u8;
+    bytes[4..6].copy_from_slice(&nl_type.to_le_bytes());
+    bytes[6..8].copy_from_slice(&flags.to_le_bytes());
+    bytes[8..12].copy_from_slice(&number.to_le_bytes());
+    bytes
+}
+
+/// Sends requests, once more if memory ran out.
+fn send(
+    session: &mut Session,
+    requests: &[u8],
+    answering: Option<Answering>,
+) -> Result<(), SendError> {
+    let mut sent = Err(SendError::Memory);
+    for _ in 0..2 {
+        if sent == Err(SendError::Memory) {
+            sent = match answering {
+                None => session.send(requests),
+                Some(answering) => session.send_expecting(requests, answering),
+            };
+        }
+    }
+    sent
+}
+
+/// Sends a request of a protocol, which waits.
+fn queue(
     session: &mut Session,
     number: u32,
-    answering: Answering,
-    echoes: bool,
-) -> Result<(), ExpectError> {
-    match session.expect(number, answering, echoes) {
-        Err(ExpectError::Memory) => session.expect(number, answering, echoes),
-        done => done,
+    protocol: NlFamily,
+    nl_type: u16,
+    flags: u16,
+    length: usize,
+) -> Result<(), SendError> {
+    let answering = Answering::of(protocol, nl_type, NlmF::from(flags), length);
+    let bytes = request(number, nl_type, flags, length);
+    send(session, &bytes[..16 + length], Some(answering))
+}
+
+/// The number of the first request of the datagram to send next, if one may go out.
+fn next_out(session: &mut Session) -> Option<u32> {
+    if !session.next_outgoing() {
+        return None;
+    }
+    match session.outgoing() {
+        Some([_, _, _, _, _, _, _, _, a, b, c, d, ..]) => {
+            Some(u32::from_le_bytes([*a, *b, *c, *d]))
+        }
+        _ => None,
     }
 }
 
@@ -150,14 +201,26 @@ fn perform(
 ) {
     match step {
         Step::Sent(number, protocol, nl_type, flags, length) => {
-            let answering = Answering::of(protocol, nl_type, NlmF::from(flags), length);
-            let sent = expect(session, number, answering, flags & 8 != 0);
+            let sent = queue(session, number, protocol, nl_type, flags, length);
+            assert_is_at(rt, place, sent, Ok(()));
+            assert_is_at(rt, place, next_out(session), Some(number));
+            session.sent();
+        }
+        Step::Queued(number, protocol, nl_type, flags, length) => {
+            let sent = queue(session, number, protocol, nl_type, flags, length);
             assert_is_at(rt, place, sent, Ok(()));
         }
-        Step::Refused(number) => {
-            let sent = expect(session, number, Answering::Silence, true);
-            assert_is_at(rt, place, sent, Err(ExpectError::InUse));
+        Step::All(text, want) => {
+            let sent = send(session, &bytes_of(rt, alloc, text), None);
+            assert_is_at(rt, place, sent, want);
         }
+        Step::Refused(number) => {
+            let sent = queue(session, number, NlFamily::Route, 16, 5, 16);
+            assert_is_at(rt, place, sent, Err(SendError::InUse(number)));
+        }
+        Step::Goes(want) => assert_is_at(rt, place, next_out(session), want),
+        Step::Went => session.sent(),
+        Step::Failed(errno) => session.not_sent(errno),
         Step::Came(text) => come(rt, session, &bytes_of(rt, alloc, text), how, 0, false),
         Step::CameFor(group, is_joined, text) => {
             come(
@@ -201,7 +264,7 @@ fn read(rt: &impl Abort, session: &mut Session, step: Step, place: (&str, usize)
 /// Plays a script: a call that runs out of memory is repeated once.
 pub fn play(rt: &impl Abort, alloc: Global, script: Script, how: Grouping) {
     let (row, port, steps) = script;
-    let mut session = Session::new(alloc, port, true);
+    let mut session = Session::new(alloc, NlFamily::Route, port, true);
     for (place, step) in steps.iter().enumerate() {
         perform(rt, alloc, &mut session, *step, how, (row, place));
     }

@@ -3,8 +3,10 @@ use Rattle.neli_reader.specs.Cuts.{Cut}
 use Rattle.neli_lent.specs.Messages.{Lent, message_view}
 use Rattle.neli_session.specs.Messages.{messages_of}
 use Rattle.neli_session.specs.Sessions.{HaveCome, HaveComeBeforeLoss, after, among, at, gains, is_heard, is_unasked, share}
-use Rattle.neli_session.specs.Sessions.{with_loss}
+use Rattle.neli_session.specs.Sessions.{when}
+use Rattle.neli_session.specs.declared.change.Change.TheVariants as change
 use Rattle.neli_session.specs.declared.loss.Loss.TheVariants as loss
+use Rattle.neli_session.proofs.Same.{same-again, same-at-first}
 use Rattle.neli_session.proofs.Datagrams.{come-loss, come-more, come-none, fault-messages, front-messages}
 use Rattle.neli_session.proofs.Messages.{none-there}
 use Rattle.neli_session.proofs.session.Session.receive.Goals as goal
@@ -17,8 +19,7 @@ loop-place-init c =
       whole = ap (λ (cut : Cut (Lent ℕ)). cut.1) none-there;
       come = come-none before.port c.args.group c.args.is_joined (messages_of []) (at before.requests) before.multicast
           before.unasked (ap (λ (cut : Cut (Lent ℕ)). cut.0) none-there);
-      port = search rules;
-      awaited = search rules;
+      sending = same-at-first before;
     }
 
 pub loop-place-preserved : goal.loop-place-preserved
@@ -34,11 +35,11 @@ loop-place-preserved c =
     let more = front-messages c.args.datagram.now c.in-Ok.span.now c.loop-place.place m inv.within c.in-Ok.ensures.span
     inv.whole c.in-Ok.ensures.message in
     let own = λ (q : ℕ). c.in-Ok-take_in.ensures.requests q
-    ∙ ap (λ (p : ℕ). after p group m q (at now.requests q)) inv.port in
+    ∙ ap (λ (p : ℕ). after p group m q (at now.requests q)) inv.sending.0.1 in
     let heard = c.in-Ok-take_in.ensures.multicast
-    ∙ ap (λ (p : ℕ). gains (share (is_heard p group joined m) m) now.multicast) inv.port in
+    ∙ ap (λ (p : ℕ). gains (share (is_heard p group joined m) m) now.multicast) inv.sending.0.1 in
     let unasked = c.in-Ok-take_in.ensures.unasked
-    ∙ ap (λ (p : ℕ). gains (share (is_unasked p group (at now.requests) m) m) now.unasked) inv.port in
+    ∙ ap (λ (p : ℕ). gains (share (is_unasked p group (at now.requests) m) m) now.unasked) inv.sending.0.1 in
     let come = come-more before.port group joined (messages_of front) m (at before.requests) (at now.requests)
     (at new.requests) before.multicast now.multicast new.multicast before.unasked now.unasked new.unasked inv.come own
     heard unasked in
@@ -47,8 +48,7 @@ loop-place-preserved c =
       whole = ap (λ (cut : Cut (Lent ℕ)). cut.1) more;
       come = subst (λ (ms : List (Lent ℕ)). HaveCome before.port group joined ms (at before.requests) (at new.requests)
           before.multicast new.multicast before.unasked new.unasked) (sym (ap (λ (cut : Cut (Lent ℕ)). cut.0) more)) come;
-      port = c.take_in.ensures.port ∙ inv.port;
-      awaited = c.take_in.ensures.awaited ∙ inv.awaited;
+      sending = same-again before now new inv.sending c.take_in.ensures.sending;
     }
 
 pub returns-in-Ok-lose-clause-whole : goal.returns-in-Ok-lose-clause-whole
@@ -67,7 +67,7 @@ returns-in-Ok-lose-clause-faulty c = λ e is.
     let faulty = fault-messages c.args.datagram.now c.loop-place.place c.in_default.field-0 inv.whole
     c.in_default.ensures.fault in
     let own = λ (q : ℕ). c.in-Ok-lose.ensures.requests q
-    ∙ ap (λ (xs : List ℕ). among xs (with_loss loss.Datagram) q (at now.requests q)) (ap (λ v. v.items) inv.awaited) in
+    ∙ ap (λ (xs : List ℕ). among xs (when (change.Lose loss.Datagram)) q (at now.requests q)) (ap (λ v. v.items) inv.sending.2) in
     let come = come-loss before.port c.args.group c.args.is_joined
     (messages_of (take c.loop-place.place c.args.datagram.now)) before.awaited.items (at before.requests)
     (at now.requests) (at new.requests) before.multicast now.multicast new.multicast before.unasked now.unasked
