@@ -7,7 +7,7 @@ use Rattle.neli_session.specs.declared.request.Request.{Request}
 use Rattle.neli_session.specs.declared.sending.SendError.{SendError}
 use Rattle.neli_session.specs.declared.sending.SendError.TheVariants as refused
 use Rattle.neli_session.specs.declared.session.Session.{Session}
-use Rattle.neli_session.specs.Mails.{Mail, dumps_of, entries_of, is_dump, is_none_waiting, mail_of, next_out, numbers_of}
+use Rattle.neli_session.specs.Mails.{Mail, answers_at_once, dumps_of, entries_of, is_dump, is_none_waiting, mail_of, next_out, numbers_of}
 use Rattle.neli_session.specs.Mails.{request_wire}
 use Rattle.neli_session.specs.Messages.{IsWhole}
 use Rattle.neli_session.specs.Requests.{is_awaited}
@@ -116,6 +116,10 @@ SameBesides old new =
 -- what a session's next datagram is
 abbrev pub next_of : Session → Option Mail
 next_of s = next_out s.is_congested s.leaving (runs_now s.running (at s.requests)) s.outbox.items
+
+-- the numbers of the requests for which nothing more comes once the link was seen empty, if they were sent
+abbrev pub ends_now : Session → List ℕ
+ends_now s = if answers_at_once s.protocol then s.awaited.items else []
 
 -- nothing waits to be sent, and nothing is on its way
 abbrev pub is_idle : Session → Bool

@@ -1,12 +1,12 @@
 //! What is sent.
 
-ghost use Rattle.std.specs.Prelude.{◌≡◌, ◌<◌, ℕ, [], false, None, Some, if◌then◌else◌, IfErr, IfOk, IfSome, IsErrOf, IsNone, OnErr, OnOk};
+ghost use Rattle.std.specs.Prelude.{◌≡◌, ◌<◌, ◌&&◌, ℕ, [], false, None, Some, if◌then◌else◌, IfErr, IfOk, IfSome, IsErrOf, IsNone, OnErr, OnOk};
 ghost use Rattle.std.specs.Prelude.{is_some, option_map};
 ghost use Rattle.neli_session.specs.Sessions.{among, at, when};
-ghost use Rattle.neli_session.specs.Mails.{dumps_of, entries_of, first_of, numbers_in, on_its_way, request_length};
+ghost use Rattle.neli_session.specs.Mails.{answers_at_once, dumps_of, entries_of, first_of, numbers_in, on_its_way, request_length};
 ghost use Rattle.neli_session.specs.Mails.{running_with, still_waiting};
 ghost use Rattle.neli_session.specs.Sends.{Adds, IsQueued, IsRequested, NothingQueued, RefusesSend, SameBesides};
-ghost use Rattle.neli_session.specs.Sends.{SameNames, SameParcels, SameReaders, is_idle, next_of, runs_now};
+ghost use Rattle.neli_session.specs.Sends.{SameNames, SameParcels, SameReaders, ends_now, is_idle, next_of, runs_now};
 
 use crate::Session;
 use crate::change::Change;
@@ -16,6 +16,7 @@ use crate::outbox::{Parcel, post, take_next, unpost};
 use crate::requests::{Unadded, add_all, change_all};
 use neli_answers::Answering;
 use neli_consts::NlmF;
+use neli_consts_system::NlFamily;
 
 /// Why requests are not sent.
 #[derive(Clone, Copy, Debug, PartialEq, Eq)]
@@ -32,6 +33,22 @@ pub enum SendError {
     Length,
     /// Memory ran out.
     Memory,
+}
+
+/// Whether the kernel answers a request of this protocol while it is sent, or goes on with its dump whenever the socket
+/// is received from.
+fn answers_at_once(protocol: NlFamily) -> bool
+    ensures { result ≡ answers_at_once protocol }
+{
+    matches!(
+        protocol,
+        NlFamily::Route
+            | NlFamily::Generic
+            | NlFamily::Netfilter
+            | NlFamily::SockOrInetDiag
+            | NlFamily::Xfrm
+            | NlFamily::Connector
+    )
 }
 
 impl Session {
@@ -259,20 +276,25 @@ impl Session {
         self.gone(Change::Unsent(errno));
     }
 
-    /// Notes that the link was seen empty: the other side answers while a request is sent, and goes on with a dump
-    /// whenever the link is received from, so nothing more comes for what was sent before.
+    /// Notes that the link was seen empty. The kernel answers while a request is sent, and goes on with a dump whenever the
+    /// link is received from, so nothing more comes for what was sent before; but where it may answer later, as in audit
+    /// or another process's protocol, answers are still awaited.
     pub fn quiet(&mut self)
         ensures requests { (q : ℕ) → at self.new.requests q
-            ≡ among self.old.awaited.items (when Change.Settle) q (at self.old.requests q) }
+            ≡ among (ends_now self.old) (when Change.Settle) q (at self.old.requests q) }
         ensures awaited { self.new.awaited.items
-            ≡ (if is_idle self.old then [] else self.old.awaited.items) }
+            ≡ (if answers_at_once self.old.protocol && is_idle self.old then []
+            else self.old.awaited.items) }
         ensures congested { self.new.is_congested ≡ false }
         ensures names { SameNames self.old self.new }
         ensures parcels { SameParcels self.old self.new }
         ensures readers { SameReaders self.old self.new }
     {
-        change_all(&mut self.requests, &self.awaited, Change::Settle);
         self.is_congested = false;
+        if !answers_at_once(self.protocol) {
+            return;
+        }
+        change_all(&mut self.requests, &self.awaited, Change::Settle);
         if self.outbox.is_empty() && self.leaving.is_none() {
             self.awaited.clear();
         }
