@@ -4,4 +4,5 @@ pub mod Requests
 pub mod Sessions
 pub mod Mails
 pub mod Sends
+pub mod Words
 pub mod Happenings

@@ -1,6 +1,6 @@
 //! What comes from the link.
 
-ghost use Rattle.std.specs.Prelude.{◌≡◌, ◌≤◌, ◌<◌, ◌+◌, ◌∷◌, ◌||◌, ℕ, pos, [], Err, Some, IfErr, OnOk, OnErr, length, take};
+ghost use Rattle.std.specs.Prelude.{◌≡◌, ◌≤◌, ◌<◌, ◌+◌, ◌∷◌, ◌||◌, ℕ, pos, [], Err, Some, IfErr, OnOk, OnErr, codes, length, take};
 ghost use Rattle.std.specs.Ordering.{int_eq};
 ghost use Rattle.neli_wire.specs.declared.errors.DeError.{DeError};
 ghost use Rattle.neli_lent.specs.Messages.{messages_in};
@@ -12,6 +12,8 @@ use crate::change::Change;
 use crate::spans::span_at;
 use crate::{Loss, Session};
 use neli_wire::NoMemory;
+use std::error::Error;
+use std::fmt;
 
 /// The fault of a link that has dropped something: no buffer space (`ENOBUFS` of `asm-generic/errno.h`).
 const ENOBUFS: i32 = 105;
@@ -22,6 +24,16 @@ pub struct Untaken {
     /// The number of bytes that were taken in. Hand in the others again.
     pub taken: usize,
 }
+
+impl fmt::Display for Untaken {
+    ghost output = { λ _. Some (codes "Out of memory") };
+
+    fn fmt<W: fmt::Write>(&self, f: &mut fmt::Formatter<W>) -> fmt::Result {
+        write!(f, "Out of memory")
+    }
+}
+
+impl Error for Untaken {}
 
 impl Session {
     /// Takes in a datagram of a group, or of none, which is 0; `is_joined` is whether the socket is in that group, whose

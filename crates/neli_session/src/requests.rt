@@ -139,11 +139,7 @@ pub(crate) enum Unadded {
 }
 
 /// Adds a request that waits to be sent. After a refusal nothing has changed.
-fn add(
-    requests: &mut IndexMap<u32, Request>,
-    alloc: Global,
-    entry: Entry,
-) -> Result<(), Unadded>
+fn add(requests: &mut IndexMap<u32, Request>, alloc: Global, entry: Entry) -> Result<(), Unadded>
     ensures free { OnOk result (at requests.old entry.number ≡ None) }
     ensures added { OnOk result ((q : ℕ) → at requests.new q ≡ with_entry entry q (at requests.old q)) }
     ensures in_use { (n : ℕ) → IsErrOf result (Unadded.InUse n)

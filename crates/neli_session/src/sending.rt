@@ -7,6 +7,7 @@ ghost use Rattle.neli_session.specs.Mails.{answers_at_once, dumps_of, entries_of
 ghost use Rattle.neli_session.specs.Mails.{running_with, still_waiting};
 ghost use Rattle.neli_session.specs.Sends.{Adds, IsQueued, IsRequested, NothingQueued, RefusesSend, SameBesides};
 ghost use Rattle.neli_session.specs.Sends.{SameNames, SameParcels, SameReaders, ends_now, is_idle, next_of, runs_now};
+ghost use Rattle.neli_session.specs.Words.{send_text};
 
 use crate::Session;
 use crate::change::Change;
@@ -17,6 +18,8 @@ use crate::requests::{Unadded, add_all, change_all};
 use neli_answers::Answering;
 use neli_consts::NlmF;
 use neli_consts_system::NlFamily;
+use std::error::Error;
+use std::fmt;
 
 /// Why requests are not sent.
 #[derive(Clone, Copy, Debug, PartialEq, Eq)]
@@ -34,6 +37,25 @@ pub enum SendError {
     /// Memory ran out.
     Memory,
 }
+
+impl fmt::Display for SendError {
+    ghost output = { send_text };
+
+    fn fmt<W: fmt::Write>(&self, f: &mut fmt::Formatter<W>) -> fmt::Result {
+        match self {
+            SendError::Unreadable => write!(f, "Not one or more whole messages"),
+            SendError::TwoDumps => {
+                write!(f, "Several requests of a datagram are answered by dumps")
+            }
+            SendError::InUse(number) => write!(f, "Sequence number {number} is in use"),
+            SendError::NoNumber => write!(f, "No sequence number is free"),
+            SendError::Length => write!(f, "Length does not fit its field"),
+            SendError::Memory => write!(f, "Out of memory"),
+        }
+    }
+}
+
+impl Error for SendError {}
 
 /// Whether the kernel answers a request of this protocol while it is sent, or goes on with its dump whenever the socket
 /// is received from.
@@ -167,11 +189,7 @@ impl Session {
     }
 
     /// Sends requests that are answered so: of a protocol whose rules the caller knows. Else as [`Session::send`].
-    pub fn send_expecting(
-        &mut self,
-        requests: &[u8],
-        answering: Answering,
-    ) -> Result<(), SendError>
+    pub fn send_expecting(&mut self, requests: &[u8], answering: Answering) -> Result<(), SendError>
         ensures queued { OnOk result (IsQueued requests.now
             (entries_of self.old.protocol (Some answering) requests.now) self.old self.new) }
         ensures refused { IfErr result (RefusesSend requests.now

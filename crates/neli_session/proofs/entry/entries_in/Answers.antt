@@ -34,6 +34,8 @@ loop-place-preserved c =
     }
 
 pub returns-in_default-clause-faulty : goal.returns-in_default-clause-faulty
-returns-in_default-clause-faulty c = λ none.
-    (c.in_default.field-0, ap (λ (cut : Cut (Lent ℕ)). cut.1) (fault-messages c.args.requests.now c.loop-place.place
-    c.in_default.field-0 c.loop-place.invariant.whole c.in_default.ensures.fault))
+returns-in_default-clause-faulty c = λ none. (
+  c.in_default.field-0,
+  ap (λ (cut : Cut (Lent ℕ)). cut.1) (fault-messages c.args.requests.now c.loop-place.place
+      c.in_default.field-0 c.loop-place.invariant.whole c.in_default.ensures.fault),
+)
