@@ -113,7 +113,7 @@ module _ (port group : ℕ) (joined : Bool) where
 
 -- ---- the bytes so far
 
-joined-in : (a b : List ℕ) → IsWhole a
+pub joined-in : (a b : List ℕ) → IsWhole a
     → messages_in {K = ℕ} (λ n. n) (a ++ b) ≡ messages_before (messages_of a) (messages_in (λ n. n) b)
 unfolding messages_in
 joined-in a b whole = cut_of-join (lent_message (λ n. n)) (layout_with-placed (λ n. n) _) (omega arith) a b whole

@@ -4,3 +4,12 @@ mod Datagrams
 mod AllRead
 mod Same
 mod Entries
+mod Later
+mod Outboxes
+mod Soundness
+mod Calls
+mod Followed
+mod Numbers
+mod Regrouped
+mod Readers
+mod Turns

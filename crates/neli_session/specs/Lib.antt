@@ -6,3 +6,4 @@ pub mod Mails
 pub mod Sends
 pub mod Words
 pub mod Happenings
+pub mod Histories

@@ -1,6 +1,9 @@
-//! Laws: what the reads of a request return, whatever happens.
+//! Laws: what the reads of a request return, whatever happens, and what holds after any calls of a session.
 
 ghost use Rattle.neli_session.specs.Happenings.{DatagramsAreHappenings, ReadsAreTheAnswer};
+ghost use Rattle.neli_session.specs.Histories.{AnswersAreRead, DatagramsGoOutInOrder, MulticastIsRead};
+ghost use Rattle.neli_session.specs.Histories.{NumbersStayInUse, OneDumpRuns, RegroupingChangesNothing};
+ghost use Rattle.neli_session.specs.Histories.{SentNumbersWereFree, UnaskedAreRead};
 
 /// Whatever happens to a request that was sent, in any order, with reads at any time: what its reads returned, and then
 /// what is still to be read, is its answer: the messages that came for it up to the first that ends it, each once and in
@@ -13,4 +16,50 @@ pub fn reads_are_the_answer()
 /// other: those with the session's port and its number.
 pub fn datagrams_are_happenings()
     ensures { DatagramsAreHappenings }
+{}
+
+/// Whatever calls a session has, refused ones too: of each request that is sent and not closed, what its reads returned,
+/// and then what is still to be read, is its answer, by what the calls since then are for its number.
+pub fn answers_are_read()
+    ensures { AnswersAreRead }
+{}
+
+/// After any calls at most one request is answered by a dump and is awaited: the kernel refuses a second dump
+/// while one runs.
+pub fn one_dump_runs()
+    ensures { OneDumpRuns }
+{}
+
+/// What went out, and then what waits, is what was sent, each datagram once and in order: those with a dump among
+/// themselves, and those without among themselves.
+pub fn datagrams_go_out_in_order()
+    ensures { DatagramsGoOutInOrder }
+{}
+
+/// The sequence numbers of what is sent were not in use.
+pub fn sent_numbers_were_free()
+    ensures { SentNumbersWereFree }
+{}
+
+/// A sequence number that was sent is free again only where its request was closed, and its answer has ended: nothing
+/// that happens later is part of it.
+pub fn numbers_stay_in_use()
+    ensures { NumbersStayInUse }
+{}
+
+/// A datagram of whole messages, and then another one, change a session as one datagram of both does.
+pub fn regrouping_changes_nothing()
+    ensures { RegroupingChangesNothing }
+{}
+
+/// Until multicast is closed, what was read of it, and then what waits there, is each message that came to a group,
+/// with another port than the session's or to one of its own groups, and each loss, once and in order.
+pub fn multicast_is_read()
+    ensures { MulticastIsRead }
+{}
+
+/// Where the unasked are kept, what was read of them, and then what waits there, is each message for no group that
+/// answered no request when it came, and each loss, once and in order.
+pub fn unasked_are_read()
+    ensures { UnaskedAreRead }
 {}
