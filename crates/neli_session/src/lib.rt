@@ -32,6 +32,7 @@ mod requests;
 mod sending;
 mod session;
 mod spans;
+pub mod steps;
 
 pub use loss::Loss;
 pub use neli_answers::Answering;
