@@ -14,7 +14,8 @@
 //! request that was awaited, after the messages before it, and in its place to the other two readers.
 //!
 //! `specs/Requests.antt` defines what comes for a request and the verdict; `specs/Sends.antt` what waits to be sent and
-//! which of it goes next; `specs/Sessions.antt` the receivers of a message, a datagram, a loss, and what a read returns.
+//! which of it goes next; `specs/Sessions.antt` the receivers of a message, a datagram, a loss, and what a read returns;
+//! `specs/Histories.antt` whole lists of calls, of which [`laws`] speak.
 #![tactic(auto)]
 
 mod change;
