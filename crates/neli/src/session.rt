@@ -29,7 +29,10 @@
 
 pub use neli_session::{Answering, Loss, Next, Reader, SendError, Session, Untaken, Verdict};
 
-/// Laws: what the reads of a request return, whatever happens to it, and what a datagram is for one request.
+/// Laws: what the reads of a request return, whatever happens to it, when its verdict is `Complete`, and what a datagram
+/// is for one request.
 pub mod laws {
-    pub use neli_session::laws::{datagrams_are_happenings, reads_are_the_answer};
+    pub use neli_session::laws::{
+        complete_answers_are_whole, datagrams_are_happenings, reads_are_the_answer,
+    };
 }

@@ -13,3 +13,4 @@ mod Numbers
 mod Regrouped
 mod Readers
 mod Turns
+mod Verdicts

@@ -7,3 +7,4 @@ pub mod Sends
 pub mod Words
 pub mod Happenings
 pub mod Histories
+pub mod Verdicts

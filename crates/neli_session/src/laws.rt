@@ -1,9 +1,11 @@
-//! Laws: what the reads of a request return, whatever happens, and what holds after any calls of a session.
+//! Laws: what the reads of a request return, whatever happens, when the verdict is `Complete`, and what holds after any
+//! calls of a session.
 
 ghost use Rattle.neli_session.specs.Happenings.{DatagramsAreHappenings, ReadsAreTheAnswer};
 ghost use Rattle.neli_session.specs.Histories.{AnswersAreRead, DatagramsGoOutInOrder, MulticastIsRead};
 ghost use Rattle.neli_session.specs.Histories.{NumbersStayInUse, OneDumpRuns, RegroupingChangesNothing};
 ghost use Rattle.neli_session.specs.Histories.{SentNumbersWereFree, UnaskedAreRead};
+ghost use Rattle.neli_session.specs.Verdicts.{CompleteAnswersAreWhole};
 
 /// Whatever happens to a request that was sent, in any order, with reads at any time: what its reads returned, and then
 /// what is still to be read, is its answer: the messages that came for it up to the first that ends it, each once and in
@@ -62,4 +64,12 @@ pub fn multicast_is_read()
 /// answered no request when it came, and each loss, once and in order.
 pub fn unasked_are_read()
     ensures { UnaskedAreRead }
+{}
+
+/// Where the verdict on an answer is `Complete`, its reads have returned all of it, each message once and in order.
+/// Nothing of it was lost, and no message of it is marked as interrupted or has another code than 0. Its last message
+/// ends it, and no other does; where the request expects no answer, as `Silence`, it may have none: then the link was
+/// seen empty.
+pub fn complete_answers_are_whole()
+    ensures { CompleteAnswersAreWhole }
 {}

@@ -1,0 +1,44 @@
+-- When the verdict on an answer is that it is complete.
+use Rattle.std.specs.Prelude.{◌≡◌, ◌≢◌, ℕ, Bool, true, false, List, [], ◌∷◌, ◌++◌}
+use Rattle.std.specs.List.{All}
+use Rattle.neli_answers.specs.Answers.{ends_answer}
+use Rattle.neli_answers.specs.declared.answering.Answering.{Answering}
+use Rattle.neli_answers.specs.declared.answering.Answering.TheVariants as answered
+use Rattle.neli_lent.specs.Messages.{Lent}
+use Rattle.neli_session.specs.declared.request.Verdict.TheVariants as stands
+use Rattle.neli_session.specs.Happenings.{Happening, after_happenings, answer, returned_by}
+use Rattle.neli_session.specs.Requests.{message_verdict, verdict_of}
+use Rattle.neli_session.specs.Sessions.{queued}
+use Rattle.neli_session.specs.Waiting.{Item, as_items}
+
+-- the answer ends with this message
+abbrev pub ends : Answering → Lent ℕ → Bool
+ends a m = ends_answer a m.0.message_type m.0.flags
+
+-- it decides no verdict: it is not marked as interrupted, and has no other code than 0
+abbrev pub IsClean : Lent ℕ → Type 0
+IsClean m = message_verdict m ≡ stands.Pending
+
+-- messages, and no loss; none decides a verdict
+abbrev pub AreClean : List Item → Type 0
+AreClean xs = (ms : List (Lent ℕ)) × (xs ≡ as_items ms) × All IsClean ms
+
+-- all of an answer: messages that decide no verdict, of which the last ends it and no other does
+pub record IsWholeAnswer (a : Answering) (xs : List Item) : Type 0 where
+  pub front : List (Lent ℕ)
+  pub last : Lent ℕ
+  pub messages : xs ≡ as_items (front ++ last ∷ [])
+  pub clean : All IsClean (front ++ last ∷ [])
+  pub not_before : All (λ m. ends a m ≡ false) front
+  pub at_last : ends a last ≡ true
+
+-- ---- the laws
+
+-- where the verdict is that an answer is complete, its reads returned the answer, and nothing of it was lost or decides
+-- another verdict; unless none was expected, it is whole
+abbrev pub CompleteAnswersAreWhole : Type 0
+CompleteAnswersAreWhole =
+    (a : Answering) (echoes : Bool) (hs : List Happening)
+    → verdict_of (after_happenings hs (queued a echoes)) ≡ stands.Complete
+    → (returned_by hs (queued a echoes) ≡ answer a echoes hs) × AreClean (answer a echoes hs)
+    × (a ≢ answered.Silence → IsWholeAnswer a (answer a echoes hs))
