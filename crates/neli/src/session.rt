@@ -34,5 +34,6 @@ pub use neli_session::{Answering, Loss, Next, Reader, SendError, Session, Untake
 pub mod laws {
     pub use neli_session::laws::{
         complete_answers_are_whole, datagrams_are_happenings, reads_are_the_answer,
+        whole_answers_are_complete,
     };
 }

@@ -1,9 +1,9 @@
 -- When the verdict is that an answer is complete: by its stage and by what was read.
 use Rattle.std.proofs.Common.{ℕ, pos, ◌≡◌, ◌≢◌, Bool, true, false, ◌&&◌, ◌||◌, ◌==◌, if◌then◌else◌}
-use Rattle.std.proofs.Common.{List, [], ◌∷◌, ◌++◌, Option, Some, None, Ok, Err, refl, sym, subst, ap, ◌∙◌}
+use Rattle.std.proofs.Common.{List, [], ◌∷◌, ◌++◌, All, Option, Some, None, Ok, Err, refl, sym, subst, ap, ◌∙◌}
 use Rattle.std.specs.Prelude.{⊤}
 use Rattle.std.proofs.lemmas.List.{append-nil}
-use Rattle.std.proofs.lemmas.List.Elements.{All-nil, All-cons}
+use Rattle.std.proofs.lemmas.List.Elements.{All-nil, All-cons, All-head, All-tail}
 use Rattle.std.specs.Ordering.{int_eq}
 use Rattle.neli_answers.specs.Answers.{has_all}
 use Rattle.neli_answers.specs.declared.answering.Answering.{Answering}
@@ -11,6 +11,7 @@ use Rattle.neli_answers.specs.declared.answering.Answering.TheVariants as answer
 use Rattle.neli_lent.specs.Messages.{Lent}
 use Rattle.neli_session.specs.declared.change.Change.TheVariants as change
 use Rattle.neli_session.specs.declared.loss.Loss.{Loss}
+use Rattle.neli_session.specs.declared.loss.Loss.TheVariants as loss
 use Rattle.neli_session.specs.declared.request.Request.{Request}
 use Rattle.neli_session.specs.declared.request.Stage.{Stage}
 use Rattle.neli_session.specs.declared.request.Stage.TheVariants as stage
@@ -21,9 +22,9 @@ use Rattle.neli_session.specs.Requests.{left_at, next_item, passed_by, sent_at, 
 use Rattle.neli_session.specs.Requests.{verdict_at, verdict_of, verdict_with}
 use Rattle.neli_session.specs.Sessions.{queued}
 use Rattle.neli_session.specs.Happenings.{Happening, Came, Changed, Read, after_happenings, answer, answer_since}
-use Rattle.neli_session.specs.Happenings.{item_list, loss_list, returned, returned_by, then_is}
+use Rattle.neli_session.specs.Happenings.{item_list, left, loss_list, returned, returned_by, then_is}
 use Rattle.neli_session.specs.Verdicts.{AreClean, IsClean, IsWholeAnswer, ends}
-use Rattle.neli_session.specs.Waiting.{Item}
+use Rattle.neli_session.specs.Waiting.{Item, as_items}
 use Rattle.neli_session.proofs.AllRead.{reads-answer}
 
 -- ---- the stage, by itself
@@ -317,3 +318,126 @@ complete-whole a e hs complete =
       to-messages (answer a e hs) clean,
       λ expected. answer-whole a e hs clean (sym at.stage_is ∙ ended-by r.stage a expected last),
     )
+
+-- ---- a whole answer has ended, and no item of it decides a verdict
+
+clean-pending : (xs : List Item) → DecideNothing xs → judged stands.Pending xs ≡ stands.Pending
+clean-pending [] clean = refl
+clean-pending (x ∷ xs) clean = ap (λ (v : Verdict). judged v xs) clean.0 ∙ clean-pending xs clean.1
+
+none-next : (xs : List Item) (l : Option Loss) → xs ++ loss_list l ≡ [] → first_item xs l ≡ None
+none-next (x ∷ xs) l is = absurd cc
+none-next [] (Some l) is = absurd cc
+none-next [] None is = refl
+
+clean-items : (ms : List (Lent ℕ)) → All IsClean ms → DecideNothing (as_items ms)
+clean-items [] all = tt
+clean-items (m ∷ ms) all = (
+  All-head IsClean m ms all,
+  clean-items ms (All-tail IsClean m ms all),
+)
+
+module _ (a : Answering) where
+  none-missing : IsWholeAnswer a [] → ⊥
+  none-missing whole = by whole.front whole.messages
+    where
+      by : (front : List (Lent ℕ)) → [] ≡ as_items (front ++ whole.last ∷ []) → ⊥
+      by [] is = cc
+      by (m ∷ ms) is = cc
+
+  none-lost : (l : Loss) (xs : List Item) → IsWholeAnswer a (Err l ∷ xs) → ⊥
+  none-lost l xs whole = by whole.front whole.messages
+    where
+      by : (front : List (Lent ℕ)) → Err l ∷ xs ≡ as_items (front ++ whole.last ∷ []) → ⊥
+      by [] is = cc
+      by (m ∷ ms) is = cc
+
+  -- after a message that does not end it
+  rest-whole : (m : Lent ℕ) (xs : List Item) → ends a m ≡ false → IsWholeAnswer a (Ok m ∷ xs) → IsWholeAnswer a xs
+  rest-whole m xs is whole = by whole.front whole.messages whole.not_before whole.clean
+    where
+      by : (front : List (Lent ℕ)) → Ok m ∷ xs ≡ as_items (front ++ whole.last ∷ [])
+          → All (λ m. ends a m ≡ false) front
+          → All IsClean (front ++ whole.last ∷ []) → IsWholeAnswer a xs
+      by [] same before clean = (let at = whole.at_last in absurd cc)
+      by (y ∷ ys) same before clean = record {
+        front = ys;
+        last = whole.last;
+        messages = cc;
+        not_before = All-tail (λ m. ends a m ≡ false) y ys before;
+        at_last = whole.at_last;
+        clean = All-tail IsClean y (ys ++ whole.last ∷ []) clean;
+      }
+
+module _ (a : Answering) (e : Bool) where
+  ended-stays : (hs : List Happening) → last_stage a e hs stage.Ended ≡ stage.Ended
+  ended-stays [] = refl
+  ended-stays (Came group m ∷ hs) = ended-stays hs
+  ended-stays (Changed change.Leave ∷ hs) = ended-stays hs
+  ended-stays (Changed change.Sent ∷ hs) = ended-stays hs
+  ended-stays (Changed (change.Unsent n) ∷ hs) = ended-stays hs
+  ended-stays (Changed (change.Lose l) ∷ hs) = ended-stays hs
+  ended-stays (Changed change.Settle ∷ hs) = ended-stays hs
+  ended-stays (Read ∷ hs) = ended-stays hs
+
+  came-ended : (m : Lent ℕ) (hs : List Happening) (xs : List Item) (s : Stage)
+      → (IsWholeAnswer a xs → last_stage a e hs s ≡ stage.Ended) → (mine last : Bool) → ends a m ≡ last
+      → IsWholeAnswer a (if mine then Ok m ∷ (if last then [] else xs) else xs)
+      → last_stage a e hs (if mine then (if last then stage.Ended else s) else s) ≡ stage.Ended
+  came-ended m hs xs s later true true is whole = ended-stays hs
+  came-ended m hs xs s later true false is whole = later (rest-whole a m xs is whole)
+  came-ended m hs xs s later false last is whole = later whole
+
+  since-ended : (sent : Bool) (hs : List Happening) → IsWholeAnswer a (answer_since sent a e hs)
+      → last_stage a e hs (if sent then stage.Awaited else stage.Leaving) ≡ stage.Ended
+  since-ended sent [] whole = absurd (none-missing a whole)
+  since-ended true (Came group m ∷ hs) whole =
+      came-ended m hs (answer_since true a e hs) stage.Awaited (since-ended true hs)
+      ((group == 0) || e) (ends a m) refl whole
+  since-ended false (Came group m ∷ hs) whole =
+      came-ended m hs (answer_since false a e hs) stage.Leaving (since-ended false hs)
+      ((group == 0) || e) (ends a m) refl whole
+  since-ended true (Changed change.Leave ∷ hs) whole = since-ended true hs whole
+  since-ended false (Changed change.Leave ∷ hs) whole = since-ended false hs whole
+  since-ended true (Changed change.Sent ∷ hs) whole = since-ended true hs whole
+  since-ended false (Changed change.Sent ∷ hs) whole = since-ended true hs whole
+  since-ended true (Changed (change.Unsent n) ∷ hs) whole = since-ended true hs whole
+  since-ended false (Changed (change.Unsent n) ∷ hs) whole = absurd (none-lost a (loss.Unsent n) [] whole)
+  since-ended true (Changed (change.Lose l) ∷ hs) whole = absurd (none-lost a l [] whole)
+  since-ended false (Changed (change.Lose l) ∷ hs) whole = absurd (none-lost a l [] whole)
+  since-ended true (Changed change.Settle ∷ hs) whole = absurd (none-missing a whole)
+  since-ended false (Changed change.Settle ∷ hs) whole = since-ended false hs whole
+  since-ended true (Read ∷ hs) whole = since-ended true hs whole
+  since-ended false (Read ∷ hs) whole = since-ended false hs whole
+
+  answer-ended : (hs : List Happening) → IsWholeAnswer a (answer a e hs)
+      → last_stage a e hs stage.Queued ≡ stage.Ended
+  answer-ended [] whole = absurd (none-missing a whole)
+  answer-ended (Came group m ∷ hs) whole = answer-ended hs whole
+  answer-ended (Changed change.Leave ∷ hs) whole = since-ended false hs whole
+  answer-ended (Changed change.Sent ∷ hs) whole = answer-ended hs whole
+  answer-ended (Changed (change.Unsent n) ∷ hs) whole = answer-ended hs whole
+  answer-ended (Changed (change.Lose l) ∷ hs) whole = answer-ended hs whole
+  answer-ended (Changed change.Settle ∷ hs) whole = answer-ended hs whole
+  answer-ended (Read ∷ hs) whole = answer-ended hs whole
+
+-- what follows a list that is all of it is nothing
+nothing-more : (xs ys : List Item) → xs ++ ys ≡ xs → ys ≡ []
+nothing-more [] ys is = is
+nothing-more (x ∷ xs) ys is = nothing-more xs ys cc
+
+pub whole-complete : (a : Answering) (e : Bool) (hs : List Happening) → IsWholeAnswer a (answer a e hs)
+    → returned_by hs (queued a e) ≡ answer a e hs
+    → verdict_of (after_happenings hs (queued a e)) ≡ stands.Complete
+whole-complete a e hs whole all =
+    let r = after_happenings hs (queued a e) in
+    let got = returned_by hs (queued a e) in
+    let clean = subst DecideNothing (sym (all ∙ whole.messages))
+    (clean-items (whole.front ++ whole.last ∷ []) whole.clean) in
+    let noted = noted-is hs (queued a e) ∙ clean-pending got clean in
+    let nothing = nothing-more got (left r) (reads-answer a e hs ∙ sym all) in
+    let ended = (ends-at hs (queued a e)).stage_is ∙ answer-ended a e hs whole in
+    ap (λ (v : Verdict). verdict_at v (next_item r) (end_verdict r.stage r.answering)) noted
+    ∙ ap (λ (x : Option Item). verdict_at stands.Pending x (end_verdict r.stage r.answering))
+    (none-next r.waiting (untold r) nothing)
+    ∙ ap (λ (s : Stage). end_verdict s r.answering) ended

@@ -42,3 +42,10 @@ CompleteAnswersAreWhole =
     → verdict_of (after_happenings hs (queued a echoes)) ≡ stands.Complete
     → (returned_by hs (queued a echoes) ≡ answer a echoes hs) × AreClean (answer a echoes hs)
     × (a ≢ answered.Silence → IsWholeAnswer a (answer a echoes hs))
+
+-- where an answer is whole and its reads returned it, the verdict is that it is complete
+abbrev pub WholeAnswersAreComplete : Type 0
+WholeAnswersAreComplete =
+    (a : Answering) (echoes : Bool) (hs : List Happening)
+    → IsWholeAnswer a (answer a echoes hs) → returned_by hs (queued a echoes) ≡ answer a echoes hs
+    → verdict_of (after_happenings hs (queued a echoes)) ≡ stands.Complete

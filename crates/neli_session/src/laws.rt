@@ -5,7 +5,7 @@ ghost use Rattle.neli_session.specs.Happenings.{DatagramsAreHappenings, ReadsAre
 ghost use Rattle.neli_session.specs.Histories.{AnswersAreRead, DatagramsGoOutInOrder, MulticastIsRead};
 ghost use Rattle.neli_session.specs.Histories.{NumbersStayInUse, OneDumpRuns, RegroupingChangesNothing};
 ghost use Rattle.neli_session.specs.Histories.{SentNumbersWereFree, UnaskedAreRead};
-ghost use Rattle.neli_session.specs.Verdicts.{CompleteAnswersAreWhole};
+ghost use Rattle.neli_session.specs.Verdicts.{CompleteAnswersAreWhole, WholeAnswersAreComplete};
 
 /// Whatever happens to a request that was sent, in any order, with reads at any time: what its reads returned, and then
 /// what is still to be read, is its answer: the messages that came for it up to the first that ends it, each once and in
@@ -72,4 +72,10 @@ pub fn unasked_are_read()
 /// seen empty.
 pub fn complete_answers_are_whole()
     ensures { CompleteAnswersAreWhole }
+{}
+
+/// Where all of an answer has come, its end too, with nothing lost, marked as interrupted or with another code than 0,
+/// and its reads have returned it, the verdict is `Complete`.
+pub fn whole_answers_are_complete()
+    ensures { WholeAnswersAreComplete }
 {}
