@@ -518,7 +518,7 @@ pub answers-are-read : (s t : Session) (by : Option Answering) (bytes : List ℕ
     × (read_of m.0.sequence_number t later ++ left r
     ≡ answer (answering_by s.protocol by m) (has_all 8 m.0.flags)
     (happenings s.protocol s.port m.0.sequence_number later))
-answers-are-read s t by bytes m later was after stays =
+answers-are-read s t by bytes m later was came stays =
     let a : Answering = answering_by s.protocol by m in
     let e : Bool = has_all 8 m.0.flags in
     let q : ℕ = m.0.sequence_number in
@@ -526,7 +526,7 @@ answers-are-read s t by bytes m later was after stays =
     let is : IsFollowed q t later hs (queued a e) =
     same-happenings q t s later (sent-port s t by bytes m was) (sent-protocol s t by bytes m was)
     (λ gs. IsFollowed q t later gs (queued a e))
-    (followed later t q (queued a e) after (sent-sound s t by bytes m was) (sent-at s t by bytes m was) refl stays) in (
+    (followed later t q (queued a e) came (sent-sound s t by bytes m was) (sent-at s t by bytes m was) refl stays) in (
       after_happenings hs (queued a e),
       is.is,
       ap (λ (xs : List Item). xs ++ left (after_happenings hs (queued a e))) is.read ∙ reads-answer a e hs,

@@ -24,7 +24,7 @@ use Rattle.neli_session.specs.Mails.{answering_by, answers_at_once, entries_of, 
 use Rattle.neli_session.specs.Messages.{messages_of}
 use Rattle.neli_session.specs.Requests.{answers, changed, first_item, heard, is_awaited, is_over, left_at, next_item}
 use Rattle.neli_session.specs.Requests.{passed, passed_by, sent_at, settled, unsent_at, untold}
-use Rattle.neli_session.specs.Sessions.{after, after_all, after_own, among, at, closed, closed_at, is_own, kept}
+use Rattle.neli_session.specs.Sessions.{after_all, after_own, among, at, closed, closed_at, is_own, kept}
 use Rattle.neli_session.specs.Sessions.{passed_at, queued, when}
 use Rattle.neli_session.specs.Waiting.{Item}
 use Rattle.neli_session.proofs.AllRead.{reads-answer}
@@ -535,7 +535,7 @@ pub numbers-stay : (s t : Session) (by : Option Answering) (bytes : List ℕ) (m
     → (is_closed m.0.sequence_number later ≡ true)
     × NothingComes (answering_by s.protocol by m) (has_all 8 m.0.flags)
     (happenings s.protocol s.port m.0.sequence_number later)
-numbers-stay s t by bytes m later was after other free =
+numbers-stay s t by bytes m later was came other free =
     let a : Answering = answering_by s.protocol by m in
     let e : Bool = has_all 8 m.0.flags in
     let q : ℕ = m.0.sequence_number in
@@ -547,7 +547,7 @@ numbers-stay s t by bytes m later was after other free =
     (λ gs. Tracks None (after_happenings gs (queued a e)) (is_closed q later))
     (subst (λ (o : Option Request). Tracks o (after_happenings (happenings t.protocol t.port q later) (queued a e))
     (is_closed q later)) free
-    (tracked later t q (queued a e) false after (sent-sound s t by bytes m was) start other)) in
+    (tracked later t q (queued a e) false came (sent-sound s t by bytes m was) start other)) in
     (is.0, nothing-comes a e (happenings s.protocol s.port q later) is.1)
 
 -- ---- a send
