@@ -44,8 +44,8 @@ future r hs = if is_some r.loss then [] else future_at r.stage r.answering r.ech
 
 -- ---- a request by its fields
 
-abbrev made : Answering → Bool → Stage → List Item → Option Loss → Bool → Verdict → Request
-made a e s w l t v = record {
+abbrev made : Answering → Bool → Stage → List Item → Option Loss → Bool → Verdict → Bool → Request
+made a e s w l t v f = record {
   answering = a;
   echoes = e;
   stage = s;
@@ -54,21 +54,22 @@ made a e s w l t v = record {
   loss = l;
   is_told = t;
   noted = v;
+  is_filtered = f;
 }
 
-module _ (a : Answering) (e : Bool) (v : Verdict) (hs : List Happening) where
+module _ (a : Answering) (e : Bool) (v : Verdict) (f : Bool) (hs : List Happening) where
   -- a message came while the answer is awaited, and nothing was lost
   came : (s : Stage) (m : Lent ℕ) (w : List Item) (mine : Bool)
       → (left (if mine then made a e (if ends_answer a m.0.message_type m.0.flags then stage.Ended else s)
-      (w ++ Ok m ∷ []) None false v else made a e s w None false v)
+      (w ++ Ok m ∷ []) None false v f else made a e s w None false v f)
       ++ future (if mine then made a e (if ends_answer a m.0.message_type m.0.flags then stage.Ended
-      else s) (w ++ Ok m ∷ []) None false v else made a e s w None false v) hs)
+      else s) (w ++ Ok m ∷ []) None false v f else made a e s w None false v f) hs)
       ≡ (w ++ []) ++ (if mine then Ok m ∷ (if ends_answer a m.0.message_type m.0.flags then []
       else future_at s a e hs) else future_at s a e hs)
   came s m w true = ends (ends_answer a m.0.message_type m.0.flags)
     where
-      ends : (b : Bool) → (left (made a e (if b then stage.Ended else s) (w ++ Ok m ∷ []) None false v)
-          ++ future (made a e (if b then stage.Ended else s) (w ++ Ok m ∷ []) None false v) hs)
+      ends : (b : Bool) → (left (made a e (if b then stage.Ended else s) (w ++ Ok m ∷ []) None false v f)
+          ++ future (made a e (if b then stage.Ended else s) (w ++ Ok m ∷ []) None false v f) hs)
           ≡ (w ++ []) ++ (Ok m ∷ (if b then [] else future_at s a e hs))
       ends true = append-none ((w ++ Ok m ∷ []) ++ []) ∙ append-none (w ++ Ok m ∷ [])
           ∙ ap (λ (xs : List Item). xs ++ Ok m ∷ []) (sym (append-none w))
@@ -79,11 +80,11 @@ module _ (a : Answering) (e : Bool) (v : Verdict) (hs : List Happening) where
 
   -- a message came after a loss: it is not kept
   came_late : (s : Stage) (m : Lent ℕ) (w : List Item) (x : Loss) (t mine ends : Bool)
-      → (left (if mine then made a e (if ends then stage.Ended else s) w (Some x) t v
-      else made a e s w (Some x) t v)
-      ++ future (if mine then made a e (if ends then stage.Ended else s) w (Some x) t v
-      else made a e s w (Some x) t v) hs)
-      ≡ left (made a e s w (Some x) t v) ++ []
+      → (left (if mine then made a e (if ends then stage.Ended else s) w (Some x) t v f
+      else made a e s w (Some x) t v f)
+      ++ future (if mine then made a e (if ends then stage.Ended else s) w (Some x) t v f
+      else made a e s w (Some x) t v f) hs)
+      ≡ left (made a e s w (Some x) t v f) ++ []
   came_late s m w x t true true = refl
   came_late s m w x t true false = refl
   came_late s m w x t false ends = refl
@@ -93,8 +94,8 @@ module _ (a : Answering) (e : Bool) (v : Verdict) (hs : List Happening) where
   told-last w y = append-none (w ++ Err y ∷ []) ∙ ap (λ (xs : List Item). xs ++ Err y ∷ []) (sym (append-none w))
 
   changed-by : (c : Change) (s : Stage) (w : List Item) (l : Option Loss) (t : Bool) → (l ≡ None → t ≡ false)
-      → left (changed c (made a e s w l t v)) ++ future (changed c (made a e s w l t v)) hs
-      ≡ left (made a e s w l t v) ++ future (made a e s w l t v) (Changed c ∷ hs)
+      → left (changed c (made a e s w l t v f)) ++ future (changed c (made a e s w l t v f)) hs
+      ≡ left (made a e s w l t v f) ++ future (made a e s w l t v f) (Changed c ∷ hs)
   changed-by change.Leave stage.Queued w None t told = refl
   changed-by change.Leave stage.Leaving w None t told = refl
   changed-by change.Leave stage.Awaited w None t told = refl
@@ -138,9 +139,9 @@ module _ (a : Answering) (e : Bool) (v : Verdict) (hs : List Happening) where
   changed-by change.Settle s w (Some x) t told = refl
 
   step-by : (h : Happening) (s : Stage) (w : List Item) (l : Option Loss) (t : Bool) → (l ≡ None → t ≡ false)
-      → returned h (made a e s w l t v) ++ (left (then_is h (made a e s w l t v))
-      ++ future (then_is h (made a e s w l t v)) hs)
-      ≡ left (made a e s w l t v) ++ future (made a e s w l t v) (h ∷ hs)
+      → returned h (made a e s w l t v f) ++ (left (then_is h (made a e s w l t v f))
+      ++ future (then_is h (made a e s w l t v f)) hs)
+      ≡ left (made a e s w l t v f) ++ future (made a e s w l t v f) (h ∷ hs)
   step-by (Came group m) stage.Leaving w None true told = (let no = told refl in cc)
   step-by (Came group m) stage.Leaving w None false told = came stage.Leaving m w ((group == 0) || e)
   step-by (Came group m) stage.Leaving w (Some x) t told =
@@ -175,20 +176,20 @@ module _ (a : Answering) (e : Bool) (v : Verdict) (hs : List Happening) where
   step-by Read s [] (Some x) true told = refl
   step-by Read s [] (Some x) false told = refl
 
-module _ (a : Answering) (e : Bool) (v : Verdict) (w : List Item) where
+module _ (a : Answering) (e : Bool) (v : Verdict) (f : Bool) (w : List Item) where
   sound-came : (m : Lent ℕ) (s : Stage) (l : Option Loss) (t mine : Bool) → (l ≡ None → t ≡ false)
-      → IsSound (if mine then heard m (made a e s w l t v) else made a e s w l t v)
+      → IsSound (if mine then heard m (made a e s w l t v f) else made a e s w l t v f)
   sound-came m s l t true told = record { open_is = refl; told = told }
   sound-came m s l t false told = record { open_is = refl; told = told }
 
   sound-lost : (y : Loss) (s s' : Stage) (l : Option Loss) (t awaited : Bool) → (l ≡ None → t ≡ false)
-      → IsSound (made a e s' w (if awaited && not (is_some l) then Some y else l) t v)
+      → IsSound (made a e s' w (if awaited && not (is_some l) then Some y else l) t v f)
   sound-lost y s s' None t true told = record { open_is = refl; told = λ n. cc }
   sound-lost y s s' (Some x) t true told = record { open_is = refl; told = told }
   sound-lost y s s' l t false told = record { open_is = refl; told = told }
 
   sound-changed : (c : Change) (s : Stage) (l : Option Loss) (t : Bool) → (l ≡ None → t ≡ false)
-      → IsSound (changed c (made a e s w l t v))
+      → IsSound (changed c (made a e s w l t v f))
   sound-changed change.Leave s l t told = record { open_is = refl; told = told }
   sound-changed change.Sent s l t told = record { open_is = refl; told = told }
   sound-changed (change.Unsent n) stage.Queued l t told = record { open_is = refl; told = told }
@@ -200,16 +201,16 @@ module _ (a : Answering) (e : Bool) (v : Verdict) (w : List Item) where
   sound-changed (change.Lose y) s l t told = sound-lost y s s l t (is_awaited s) told
   sound-changed change.Settle s l t told = record { open_is = refl; told = told }
 
-sound-by : (a : Answering) (e : Bool) (v : Verdict) (h : Happening) (s : Stage) (w : List Item) (l : Option Loss) (t : Bool)
-    → (l ≡ None → t ≡ false) → IsSound (then_is h (made a e s w l t v))
-sound-by a e v (Came group m) s w l t told =
-    sound-came a e v w m s l t (answers group (made a e s w l t v)) told
-sound-by a e v (Changed c) s w l t told = sound-changed a e v w c s l t told
-sound-by a e v Read s (x ∷ w) l t told = record { open_is = refl; told = told }
-sound-by a e v Read s [] None true told = record { open_is = refl; told = told }
-sound-by a e v Read s [] None false told = record { open_is = refl; told = told }
-sound-by a e v Read s [] (Some x) true told = record { open_is = refl; told = told }
-sound-by a e v Read s [] (Some x) false told = record { open_is = refl; told = λ n. cc }
+sound-by : (a : Answering) (e : Bool) (v : Verdict) (f : Bool) (h : Happening) (s : Stage) (w : List Item) (l : Option Loss) (t : Bool)
+    → (l ≡ None → t ≡ false) → IsSound (then_is h (made a e s w l t v f))
+sound-by a e v f (Came group m) s w l t told =
+    sound-came a e v f w m s l t (answers group (made a e s w l t v f)) told
+sound-by a e v f (Changed c) s w l t told = sound-changed a e v f w c s l t told
+sound-by a e v f Read s (x ∷ w) l t told = record { open_is = refl; told = told }
+sound-by a e v f Read s [] None true told = record { open_is = refl; told = told }
+sound-by a e v f Read s [] None false told = record { open_is = refl; told = told }
+sound-by a e v f Read s [] (Some x) true told = record { open_is = refl; told = told }
+sound-by a e v f Read s [] (Some x) false told = record { open_is = refl; told = λ n. cc }
 
 abbrev nothing : List Item
 nothing = []
@@ -227,18 +228,18 @@ no-future r = go (is_some r.loss) r.stage
 
 -- every request with a reader is made of its fields
 made-of : (r : Request) → r.is_open ≡ true
-    → made r.answering r.echoes r.stage r.waiting r.loss r.is_told r.noted ≡ r
+    → made r.answering r.echoes r.stage r.waiting r.loss r.is_told r.noted r.is_filtered ≡ r
 made-of r is = ap (λ (b : Bool). record r { is_open = b }) (sym is)
 
 step : (h : Happening) (hs : List Happening) (r : Request) → IsSound r
     → returned h r ++ (left (then_is h r) ++ future (then_is h r) hs) ≡ left r ++ future r (h ∷ hs)
 step h hs r sound =
     subst (λ (x : Request). returned h x ++ (left (then_is h x) ++ future (then_is h x) hs) ≡ left x ++ future x (h ∷ hs))
-    (made-of r sound.open_is) (step-by r.answering r.echoes r.noted hs h r.stage r.waiting r.loss r.is_told sound.told)
+    (made-of r sound.open_is) (step-by r.answering r.echoes r.noted r.is_filtered hs h r.stage r.waiting r.loss r.is_told sound.told)
 
 stays-sound : (h : Happening) (r : Request) → IsSound r → IsSound (then_is h r)
 stays-sound h r sound = subst (λ (x : Request). IsSound (then_is h x)) (made-of r sound.open_is)
-    (sound-by r.answering r.echoes r.noted h r.stage r.waiting r.loss r.is_told sound.told)
+    (sound-by r.answering r.echoes r.noted r.is_filtered h r.stage r.waiting r.loss r.is_told sound.told)
 
 all-read : (hs : List Happening) (r : Request) → IsSound r
     → returned_by hs r ++ left (after_happenings hs r) ≡ left r ++ future r hs

@@ -145,6 +145,11 @@ abbrev pub verdict_at : Verdict → Option Item → Verdict → Verdict
 verdict_at stands.Pending None ended = ended
 verdict_at v item ended = v
 
+-- the kernel marked it: it left objects out of the list, as the request wanted (NLM_F_DUMP_FILTERED, 32)
+abbrev pub is_marked : Item → Bool
+is_marked (Ok m) = has_all 32 m.0.flags
+is_marked (Err l) = false
+
 -- the verdict on its answer
 abbrev pub verdict_of : Request → Verdict
 verdict_of r = verdict_at r.noted (next_item r) (end_verdict r.stage r.answering)
@@ -153,7 +158,11 @@ verdict_of r = verdict_at r.noted (next_item r) (end_verdict r.stage r.answering
 
 -- after what waits first was read, or else the loss
 abbrev pub passed_by : List Item → Option Loss → Request → Request
-passed_by (x ∷ xs) l r = record r { waiting = xs; noted = verdict_with r.noted x }
+passed_by (x ∷ xs) l r = record r {
+  waiting = xs;
+  noted = verdict_with r.noted x;
+  is_filtered = is_marked x || r.is_filtered;
+}
 passed_by [] (Some l) r = record r { is_told = true; noted = verdict_with r.noted (Err l) }
 passed_by [] None r = r
 

@@ -153,6 +153,11 @@ without_first None = None
 without_first (Some []) = Some []
 without_first (Some (x ∷ xs)) = Some xs
 
+-- what was read of its answer is marked as filtered
+abbrev pub filtered_at : Option Request → Bool
+filtered_at None = false
+filtered_at (Some r) = r.is_filtered
+
 -- a request whose reader goes on
 abbrev pub passed_at : Option Request → Option Request
 passed_at o = option_map passed o
@@ -177,6 +182,7 @@ queued answering echoes = record {
   loss = None;
   is_told = false;
   noted = stands.Pending;
+  is_filtered = false;
 }
 
 -- a queue that is kept is empty at first

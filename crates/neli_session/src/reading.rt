@@ -3,7 +3,7 @@
 ghost use Rattle.std.specs.Prelude.{◌≡◌, ℕ, None, Some, IfSome, IsNone, false, nat_eq, option_map};
 ghost use Rattle.neli_session.specs.Requests.{verdict_of};
 ghost use Rattle.neli_session.specs.Sends.{SameSending};
-ghost use Rattle.neli_session.specs.Sessions.{IsReplyOf, IsReplyOfQueue, at, closed_at, passed_at, without_first};
+ghost use Rattle.neli_session.specs.Sessions.{IsReplyOf, IsReplyOfQueue, at, closed_at, filtered_at, passed_at, without_first};
 
 use crate::queue::Queue;
 use crate::requests::{close, pass};
@@ -138,6 +138,17 @@ impl Session {
         match self.requests.get(&number) {
             None => None,
             Some(request) => Some(request.verdict()),
+        }
+    }
+
+    /// Whether a message that was read of the answer to a request is marked as filtered (`NLM_F_DUMP_FILTERED`): the
+    /// kernel left objects out, as the request wanted. False if the number is not in use.
+    pub fn is_filtered(&self, number: u32) -> bool
+        ensures { result ≡ filtered_at (at self.now.requests number) }
+    {
+        match self.requests.get(&number) {
+            None => false,
+            Some(request) => request.is_filtered,
         }
     }
 

@@ -6,7 +6,7 @@ ghost use Rattle.neli_answers.specs.Answers.{ends_answer};
 ghost use Rattle.neli_session.specs.Messages.{IsMessage};
 ghost use Rattle.neli_session.specs.Waiting.{lent_item};
 ghost use Rattle.neli_session.specs.Requests.{answers, changed, code_of, code_or_zero, end_verdict, heard, is_awaited};
-ghost use Rattle.neli_session.specs.Requests.{is_over, item_verdict, left_at, lost, message_verdict, next_item, passed};
+ghost use Rattle.neli_session.specs.Requests.{is_marked, is_over, item_verdict, left_at, lost, message_verdict, next_item, passed};
 ghost use Rattle.neli_session.specs.Requests.{sent_at, settled, unsent, verdict_of};
 ghost use Rattle.neli_session.specs.Sends.{is_running};
 ghost use Rattle.neli_session.specs.Sessions.{closed, has_ended, queued};
@@ -118,6 +118,8 @@ pub(crate) struct Request {
     pub(crate) is_told: bool,
     /// The verdict by the items that were read.
     pub(crate) noted: Verdict,
+    /// A message that was read is marked as filtered.
+    pub(crate) is_filtered: bool,
 }
 
 /// The code at the front of these bytes; 0 if they are too few.
@@ -164,6 +166,16 @@ fn item_verdict(item: &Result<LentMessage<'_, u16>, Loss>) -> Verdict
     }
 }
 
+/// Whether the kernel marked an item as filtered.
+fn is_marked(item: &Result<LentMessage<'_, u16>, Loss>) -> bool
+    ensures { result ≡ is_marked (lent_item item.now) }
+{
+    match item {
+        Ok(message) => message.nl_flags().contains(NlmF::DUMP_FILTERED),
+        Err(_) => false,
+    }
+}
+
 /// The verdict where all of an answer was read.
 fn end_verdict(stage: Stage, answering: Answering) -> Verdict
     ensures { result ≡ end_verdict stage answering }
@@ -192,6 +204,7 @@ impl Request {
             loss: None,
             is_told: false,
             noted: Verdict::Pending,
+            is_filtered: false,
         }
     }
 
@@ -286,6 +299,7 @@ impl Request {
             return;
         };
         let by_item = item_verdict(&item);
+        self.is_filtered = is_marked(&item) || self.is_filtered;
         if self.noted == Verdict::Pending {
             self.noted = by_item;
         }
