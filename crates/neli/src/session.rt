@@ -32,8 +32,10 @@ pub use neli_session::{Answering, Loss, Next, Reader, SendError, Session, Untake
 /// Laws: what the reads of a request return, whatever happens to it, when the verdict is `Complete`, and what holds after
 /// any calls of a session.
 pub mod laws {
-    pub use neli_session::laws::{answers_are_read, complete_answers_are_whole, datagrams_are_happenings};
-    pub use neli_session::laws::{datagrams_go_out_in_order, multicast_is_read, numbers_stay_in_use};
-    pub use neli_session::laws::{one_dump_runs, reads_are_the_answer, regrouping_changes_nothing};
-    pub use neli_session::laws::{sent_numbers_were_free, unasked_are_read, whole_answers_are_complete};
+    pub use neli_session::laws::{
+        answers_are_read, complete_answers_are_whole, datagrams_are_happenings,
+        datagrams_go_out_in_order, multicast_is_read, numbers_stay_in_use, one_dump_runs,
+        reads_are_the_answer, regrouping_changes_nothing, sent_numbers_were_free, unasked_are_read,
+        whole_answers_are_complete,
+    };
 }
