@@ -1,5 +1,5 @@
 /* Netlink for C: calls that read and write messages and attributes in your bytes, a router that delivers each reply to
- * its request, and a kernel to test against.
+ * its request, a session that also queues requests and knows where their answers end, and a kernel to test against.
  *
  * This header has no sockets: requests are returned as bytes, and you pass in the datagrams that arrive. Numbers are
  * those of a little-endian machine.
@@ -55,7 +55,7 @@ enum neli_code {
     NELI_LENGTH = -2,         /* a length does not fit: below its header, past the bytes, or past its field */
     NELI_MEMORY = -3,         /* memory ran out; everything is unchanged, unless the call says otherwise */
     NELI_ROOM = -4,           /* the room is too small; nothing was written, or of a text its beginning */
-    NELI_STATE = -5,          /* the router, the dump or the tables are closed or open already, or a dump is finished */
+    NELI_STATE = -5,          /* a router, session, dump or tables are closed or open already, or a dump is finished */
     NELI_HANDLE = -6,         /* no such handle exists, or no item was read */
     NELI_IN_USE = -7,         /* the sequence number belongs to a request that is not closed */
     NELI_STRAY = -8,          /* a message arrived with a port or a sequence number that no request has */
@@ -147,19 +147,41 @@ struct neli_item {
     int32_t error; /* the code of an error, an acknowledgement or the end of a dump; 0 elsewhere */
 };
 
-/* An item that is lent: a message where the router keeps it. Its payload is all of the bytes, so each call that takes
- * bytes and a message takes these two. */
+/* An item that is lent: a message where the router or the session keeps it. Its payload is all of the bytes, so each
+ * call that takes bytes and a message takes these two. */
 struct neli_lent {
     struct neli_message message;
     const uint8_t *bytes; /* never null */
     size_t length;
-    int32_t error; /* the code of a kernel's error; 0 elsewhere */
+    int32_t error; /* the code of a kernel's error; of a session's loss its errno; 0 elsewhere */
 };
 
-/* A verdict on an answer, beside the code that neli_router_verdict returns. */
+/* A verdict on an answer, beside the code that neli_router_verdict or neli_session_verdict returns. */
 struct neli_verdict {
-    int32_t error; /* the code of the kernel's error, or of the dump that failed, as -19 for ENODEV; 0 elsewhere */
+    int32_t error; /* the code of the kernel's error, or of the dump that failed, as -19 for ENODEV; of a session also
+                    * the errno of a loss; 0 elsewhere */
     uint8_t filtered; /* 1 if the kernel filtered the list (NLM_F_DUMP_FILTERED), else 0 */
+};
+
+/* A session, private to the library. It begins as NELI_SESSION_CLOSED, is not copied while it is open, is used by one
+ * thread at a time, and is freed by its last owner. */
+struct neli_session {
+    bool is_open;
+    void *state;
+};
+#define NELI_SESSION_CLOSED {false, NULL}
+
+/* Whose reads these are. */
+enum neli_reader {
+    NELI_READER_REQUEST = 0,   /* the answer to a request, by its sequence number */
+    NELI_READER_MULTICAST = 1, /* what came for groups */
+    NELI_READER_UNASKED = 2    /* what came for no group, and answers no request */
+};
+
+/* Bytes that a session lends. */
+struct neli_bytes {
+    const uint8_t *bytes; /* never null */
+    size_t length;
 };
 
 /* A request as a kernel takes it: the message, the port of the socket that sent it, and what its header asks for, each
@@ -299,6 +321,29 @@ int32_t neli_c_router_pass_items(struct neli_router *router, size_t handle, size
 int32_t neli_c_router_verdict(struct neli_router *router, size_t handle, struct neli_verdict *verdict);
 int32_t neli_c_router_give_up(struct neli_router *router, size_t handle);
 int32_t neli_c_router_close(struct neli_router *router, size_t handle);
+int32_t neli_c_session_new(struct neli_session *session, int32_t protocol, uint32_t port, uint8_t keeps_unasked);
+int32_t neli_c_session_free(struct neli_session *session);
+int32_t neli_c_session_set_number(struct neli_session *session, uint32_t number);
+int32_t neli_c_session_send(struct neli_session *session, uint16_t type, uint16_t flags, const uint8_t *body,
+                            size_t body_length, uint32_t *number);
+int32_t neli_c_session_send_all(struct neli_session *session, const uint8_t *requests, size_t length);
+int32_t neli_c_session_send_expecting(struct neli_session *session, uint32_t answering, const uint8_t *requests,
+                                      size_t length);
+int32_t neli_c_session_take_number(struct neli_session *session, uint32_t *number);
+int32_t neli_c_session_next_outgoing(struct neli_session *session);
+int32_t neli_c_session_outgoing(struct neli_session *session, struct neli_bytes *bytes);
+int32_t neli_c_session_sent(struct neli_session *session);
+int32_t neli_c_session_not_sent(struct neli_session *session, int32_t error_number);
+int32_t neli_c_session_receive(struct neli_session *session, const uint8_t *bytes, size_t length, uint32_t group,
+                               uint8_t is_joined, size_t *taken);
+int32_t neli_c_session_fault(struct neli_session *session, int32_t error_number);
+int32_t neli_c_session_quiet(struct neli_session *session);
+int32_t neli_c_session_next(struct neli_session *session, uint32_t reader, uint32_t number, struct neli_lent *lent);
+int32_t neli_c_session_pass(struct neli_session *session, uint32_t reader, uint32_t number);
+int32_t neli_c_session_verdict(struct neli_session *session, uint32_t number, struct neli_verdict *verdict);
+int32_t neli_c_session_close(struct neli_session *session, uint32_t number);
+int32_t neli_c_session_close_multicast(struct neli_session *session);
+int32_t neli_c_session_is_in_use(struct neli_session *session, uint32_t number);
 int32_t neli_c_next_request(const uint8_t *bytes, size_t length, struct neli_walk *walk, uint32_t port,
                             struct neli_request *request);
 uint32_t neli_c_answering(int32_t protocol, uint16_t type, uint16_t flags, size_t body_length);
@@ -707,6 +752,169 @@ static inline int32_t neli_router_close(struct neli_router *router, size_t handl
     return neli_c_router_close(router, handle);
 }
 
+/* ---- The session ---- */
+
+/* What a client of the kernel needs beside the bytes of its messages, without a socket: it queues requests and lends
+ * them as they may go out, takes in what comes, and lends each reader its next item. A message goes to the request that
+ * it answers, to multicast, or to the unasked, and a loss to all who wait: docs/SESSION.md. It shares nothing with a
+ * router. Where memory runs out a call returns NELI_MEMORY, and nothing is changed, but by neli_session_receive.
+ *
+ * All but the first two return NELI_STATE if the session is closed. What is lent stays until the next call of this
+ * session. */
+
+/* Opens a session for the caller's socket, of this protocol (NETLINK_ROUTE is 0) and with this port; what answers no
+ * request is kept if `keeps_unasked`. NELI_STATE if it is open, and it stays so. */
+static inline int32_t neli_session_new(struct neli_session *session, int32_t protocol, uint32_t port,
+                                       bool keeps_unasked) {
+    if (session == NULL) return NELI_NULL;
+    return neli_c_session_new(session, protocol, port, keeps_unasked ? 1 : 0);
+}
+
+/* Frees a session's memory, and closes it. Does nothing to a closed one. */
+static inline int32_t neli_session_free(struct neli_session *session) {
+    if (session == NULL) return NELI_NULL;
+    return neli_c_session_free(session);
+}
+
+/* Sets the sequence number to try first for the next request, at first 0. */
+static inline int32_t neli_session_set_number(struct neli_session *session, uint32_t number) {
+    if (session == NULL) return NELI_NULL;
+    return neli_c_session_set_number(session, number);
+}
+
+/* Queues a request of this type with these flags and NLM_F_REQUEST, whose payload is the body; `number` is its sequence
+ * number, the next that is free. NELI_LENGTH if the length exceeds 32 bits; NELI_IN_USE if no number is free. */
+static inline int32_t neli_session_send(struct neli_session *session, uint16_t type, uint16_t flags, const void *body,
+                                        size_t body_length, uint32_t *number) {
+    if (session == NULL || !neli_is_slice(body, body_length) || number == NULL) return NELI_NULL;
+    return neli_c_session_send(session, type, flags, neli_read_at((const uint8_t *)body), body_length, number);
+}
+
+/* Queues requests as one datagram: whole messages, each with a sequence number of its own, answered as neli_answering
+ * says of each. NELI_SHORT if the bytes are not one or more whole messages; NELI_KIND if several are answered by dumps,
+ * of which the kernel runs one at a time; NELI_IN_USE if a number is in use, or several of them have it. */
+static inline int32_t neli_session_send_all(struct neli_session *session, const uint8_t *requests, size_t length) {
+    if (session == NULL || !neli_is_slice(requests, length)) return NELI_NULL;
+    return neli_c_session_send_all(session, neli_read_at(requests), length);
+}
+
+/* The same of requests that are all answered so, by a number of enum neli_answering: those of a protocol whose rules
+ * the caller knows. NELI_KIND also if it is none of them. */
+static inline int32_t neli_session_send_expecting(struct neli_session *session, uint32_t answering,
+                                                  const uint8_t *requests, size_t length) {
+    if (session == NULL || !neli_is_slice(requests, length)) return NELI_NULL;
+    return neli_c_session_send_expecting(session, answering, neli_read_at(requests), length);
+}
+
+/* Takes a sequence number that is not in use, for a message that the caller writes; NELI_IN_USE if none is free. */
+static inline int32_t neli_session_take_number(struct neli_session *session, uint32_t *number) {
+    if (session == NULL || number == NULL) return NELI_NULL;
+    return neli_c_session_take_number(session, number);
+}
+
+/* Lends the datagram to send next: NELI_ITEM, or NELI_WAITS if none may go out now, and then there are no bytes. It is
+ * the one that was lent before, until neli_session_sent or neli_session_not_sent; or else the first that waits. While a
+ * dump runs none with a dump goes out, and after the fault ENOBUFS none at all until neli_session_quiet. The answers of
+ * its requests may come from now on. No memory is taken. */
+static inline int32_t neli_session_outgoing(struct neli_session *session, const uint8_t **bytes, size_t *length) {
+    struct neli_bytes lent;
+    int32_t code;
+    if (session == NULL || bytes == NULL || length == NULL) return NELI_NULL;
+    lent.bytes = neli_read_at(NULL);
+    lent.length = 0;
+    code = neli_c_session_next_outgoing(session);
+    if (code == NELI_ITEM) code = neli_c_session_outgoing(session, &lent);
+    *bytes = lent.bytes;
+    *length = lent.length;
+    return code;
+}
+
+/* The link has sent what neli_session_outgoing lent. */
+static inline int32_t neli_session_sent(struct neli_session *session) {
+    if (session == NULL) return NELI_NULL;
+    return neli_c_session_sent(session);
+}
+
+/* The link has not sent it, by a number in errno.h: its requests read that as NELI_LINK, and nothing comes for them. */
+static inline int32_t neli_session_not_sent(struct neli_session *session, int32_t error_number) {
+    if (session == NULL) return NELI_NULL;
+    return neli_c_session_not_sent(session, error_number);
+}
+
+/* Takes in a datagram of a group, or of none, which is 0; `is_joined` is whether the socket is in that group. It is
+ * copied, and `taken` is its length. At NELI_MEMORY its first messages were taken in, and `taken` is how many bytes
+ * they have: hand in the others again. One that cannot be read to its end is a loss, after its messages. */
+static inline int32_t neli_session_receive(struct neli_session *session, const uint8_t *bytes, size_t length,
+                                           uint32_t group, bool is_joined, size_t *taken) {
+    if (session == NULL || !neli_is_slice(bytes, length) || taken == NULL) return NELI_NULL;
+    return neli_c_session_receive(session, neli_read_at(bytes), length, group, is_joined ? 1 : 0, taken);
+}
+
+/* The link failed, by a number in errno.h: each request that is awaited, multicast and the unasked read that as a
+ * loss. */
+static inline int32_t neli_session_fault(struct neli_session *session, int32_t error_number) {
+    if (session == NULL) return NELI_NULL;
+    return neli_c_session_fault(session, error_number);
+}
+
+/* The link was seen empty, as by EAGAIN of a read: whatever was sent before gets nothing more. */
+static inline int32_t neli_session_quiet(struct neli_session *session) {
+    if (session == NULL) return NELI_NULL;
+    return neli_c_session_quiet(session);
+}
+
+/* Lends the next item of a reader, where the session keeps it; `number` is that of a request, and else not read. It
+ * returns NELI_ITEM; NELI_KERNEL_ERROR for an error message of a request with another code than 0, which is lent too;
+ * NELI_LINK for a loss, whose errno is in `lent`: the link failed, or did not send this request; NELI_SHORT for a loss
+ * by a datagram that could not be read to its end; NELI_END at the end; NELI_WAITS; NELI_HANDLE if nobody reads here:
+ * closed, or never in use. The item, a loss too, stays the next one until neli_session_pass. There are bytes at the
+ * first two codes alone. No memory is taken. */
+static inline int32_t neli_session_next(struct neli_session *session, enum neli_reader reader, uint32_t number,
+                                        struct neli_lent *lent) {
+    if (session == NULL || lent == NULL) return NELI_NULL;
+    lent->bytes = neli_read_at(NULL);
+    lent->length = 0;
+    return neli_c_session_next(session, (uint32_t)reader, number, lent);
+}
+
+/* Goes past the next item of a reader, a loss too; where none waits nothing changes. */
+static inline int32_t neli_session_pass(struct neli_session *session, enum neli_reader reader, uint32_t number) {
+    if (session == NULL) return NELI_NULL;
+    return neli_c_session_pass(session, (uint32_t)reader, number);
+}
+
+/* The verdict on the answer to a request, by what was read of it: NELI_OK if it is complete; NELI_WAITS until it has
+ * ended; NELI_INTERRUPTED if the listed objects changed meanwhile; NELI_KERNEL_ERROR if it failed, by the code in
+ * `verdict`; NELI_LINK if something of it was lost by the link, or it was not sent, by the errno in `verdict`;
+ * NELI_SHORT if something was lost by a datagram that could not be read to its end; NELI_UNENDED if the link was seen
+ * empty before its end. All but NELI_WAITS are final. NELI_HANDLE if the number is not in use; then `verdict` is
+ * unchanged. */
+static inline int32_t neli_session_verdict(struct neli_session *session, uint32_t number,
+                                           struct neli_verdict *verdict) {
+    if (session == NULL || verdict == NULL) return NELI_NULL;
+    return neli_c_session_verdict(session, number, verdict);
+}
+
+/* Closes a request: nothing of its answer is kept any more, and its number is in use until nothing more can come for
+ * it. Does nothing where the number is not in use. */
+static inline int32_t neli_session_close(struct neli_session *session, uint32_t number) {
+    if (session == NULL) return NELI_NULL;
+    return neli_c_session_close(session, number);
+}
+
+/* Closes multicast: nothing of it is kept any more. It is not opened again. */
+static inline int32_t neli_session_close_multicast(struct neli_session *session) {
+    if (session == NULL) return NELI_NULL;
+    return neli_c_session_close_multicast(session);
+}
+
+/* NELI_IN_USE if the request of this number is still to be sent, something may still come for it, or its answer is
+ * read; else NELI_OK. */
+static inline int32_t neli_session_is_in_use(struct neli_session *session, uint32_t number) {
+    if (session == NULL) return NELI_NULL;
+    return neli_c_session_is_in_use(session, number);
+}
+
 /* ---- How Linux answers ---- */
 
 /* How Linux answers a request, as a number of enum neli_answering: one of this protocol (NETLINK_ROUTE is 0), with this
@@ -934,11 +1142,12 @@ static inline int32_t neli_datagram_json(struct neli_tables *tables, uint16_t pr
 
 /* Stores a message's attributes by name, those in a nest behind the nest; and writes of each its path, the names from
  * the outside in with dots between them, as IFLA_LINKINFO.IFLA_INFO_KIND, a number where there is no row, and behind
- * it its value in JSON, by what its row says that it is, or else its bytes. `count` is how many items there are, and
- * `size` how many bytes their texts have: NELI_OK if both had room. NELI_ROOM if not: the first items are stored that
- * had, and the beginning of the texts; a second call with this room has it all. `item_room` counts items. No zero byte
- * ends a text. The time is that of one walk, however many items there are. NELI_KIND if no table has the attributes of
- * such a message, NELI_PLACE if its payload is past the bytes; then nothing is stored. */
+ * it its value in JSON, by what its row says that it is, or else its bytes. A rest has the path of its list, `body` in
+ * the message's own. `count` is how many items there are, and `size` how many bytes their texts have: NELI_OK if both
+ * had room. NELI_ROOM if not: the first items are stored that had, and the beginning of the texts; a second call with
+ * this room has it all. `item_room` counts items. No zero byte ends a text. The time is that of one walk, however many
+ * items there are. NELI_KIND if no table has the attributes of such a message, NELI_PLACE if its payload is past the
+ * bytes; then nothing is stored. */
 static inline int32_t neli_named_items(struct neli_tables *tables, uint16_t protocol, const uint8_t *bytes,
                                        size_t length, const struct neli_message *message, struct neli_named *items,
                                        size_t item_room, size_t *count, char *text, size_t room, size_t *size) {

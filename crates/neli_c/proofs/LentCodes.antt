@@ -23,7 +23,7 @@ use denote.Steps.{only}
 use denote.Triple.End.{Kepts}
 use denote.Triple.Walked.{AllGo, Stay, Stays}
 use Rattle.std.specs.Prelude.{◌^◌, ℕ}
-use Rattle.neli_c.specs.contracts.router.Lending as Lending
+use Rattle.neli_c.specs.contracts.lending.Lending as Lending
 
 -- ---- the parameters
 

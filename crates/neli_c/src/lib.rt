@@ -5,6 +5,7 @@
 //! - [`lists`] finds lists of attributes and looks attributes up, and [`answer`] reads errors and acknowledgements.
 //! - [`write`] writes messages, attributes and nests into the caller's bytes.
 //! - [`router`] has a router behind a struct that the library alone looks into.
+//! - [`session`] has a session behind such a struct.
 //! - [`expecting`] says how Linux answers a request, and where its answer ends.
 //! - [`kernel`] makes a kernel's answers to a request, and [`dump`] those in several messages.
 //! - [`tables`] has families' tables, [`printed`] messages by them as text and as JSON, and [`named`] their attributes
@@ -19,12 +20,14 @@ pub mod answer;
 pub mod dump;
 pub mod expecting;
 pub mod kernel;
+mod lending;
 pub mod lent;
 pub mod lists;
 pub mod named;
 pub mod number;
 pub mod printed;
 pub mod router;
+pub mod session;
 pub mod several;
 pub mod tables;
 pub mod text;

@@ -15,6 +15,7 @@ ghost use Rattle.std.specs.Borrow.{sem};
 ghost use Rattle.neli_c_parts.specs.Listens.{Listens, Misses, MissesSame};
 ghost use Rattle.neli_c_parts.specs.Slots.{handle_at};
 
+use crate::lending::Lending;
 use neli_c_parts::code::{MEMORY, OK, STATE};
 use neli_c_parts::lending::NeliLent;
 use neli_c_parts::router_opaque::NeliRouter;
@@ -236,13 +237,6 @@ pub extern "C" fn neli_c_router_item(
     let code = session.item(alloc, out, size);
     router.put(session);
     code
-}
-
-/// The code of a lend, and the bytes that are lent then: they keep the router as it is.
-#[derive(Clone, Copy)]
-struct Lending<'r> {
-    code: i32,
-    bytes: &'r [u8],
 }
 
 /// Lends the next item of a handle.

@@ -1,0 +1,4 @@
+pub mod Calls
+pub mod Outcomes
+pub mod Places
+pub mod Reads
