@@ -33,6 +33,14 @@ static enum status status = STATUS_COMPLETE;
 static volatile sig_atomic_t is_stopped;
 static sigset_t waiting; /* the signals that stay blocked while it waits */
 static FILE *out;        /* the standard output */
+static const char *program = "monitor"; /* what messages about this program begin with: the name that it was run by */
+
+/* The last part of the path that it was run by. */
+static void name_program(const char *path) {
+    const char *slash = strrchr(path, '/');
+    const char *name = slash != NULL ? slash + 1 : path;
+    if (*name != '\0') program = name;
+}
 
 static void stop(int number) {
     (void)number;
@@ -40,7 +48,7 @@ static void stop(int number) {
 }
 
 static void not_begun(const char *what, const char *why) {
-    fprintf(stderr, "monitor: %s: %s\n", what, why);
+    fprintf(stderr, "%s: %s: %s\n", program, what, why);
     exit(STATUS_NOT_BEGUN);
 }
 
@@ -175,7 +183,7 @@ static void print_all(struct neli_host *host) {
             print_message(host, &message);
             continue;
         }
-        if (status_of(code) != STATUS_LOST) fail(host, "monitor", code, NULL);
+        if (status_of(code) != STATUS_LOST) fail(host, program, code, NULL);
         char why[128];
         neli_host_explain(host, code, NULL, why, sizeof why);
         print_time();
@@ -214,12 +222,13 @@ static void watch(void) {
 int main(int argc, char **argv) {
     unsigned long size = 4ul << 20;
     bool is_right = true;
+    if (argc > 0) name_program(argv[0]);
     for (int option; is_right && (option = getopt(argc, argv, "jc:b:")) != -1;) {
         if (option == 'j') is_json = true;
         else is_right = (option == 'c' && is_number(optarg, &left)) || (option == 'b' && is_number(optarg, &size));
     }
     if (!is_right || optind == argc || size > INT32_MAX) {
-        fputs("usage: monitor [-j] [-c COUNT] [-b BYTES] FAMILY..\n", stderr);
+        fprintf(stderr, "usage: %s [-j] [-c COUNT] [-b BYTES] FAMILY..\n", program);
         return STATUS_NOT_BEGUN;
     }
     if (neli_tables_built_in(&tables) != NELI_OK) not_begun("the tables", "no memory");
@@ -236,6 +245,6 @@ int main(int argc, char **argv) {
     for (int i = 0; i < 2; i++) neli_host_close(hosts[i]);
     neli_tables_free(&tables);
     free(text);
-    if (status != STATUS_COMPLETE) fputs("monitor: some were lost\n", stderr);
+    if (status != STATUS_COMPLETE) fprintf(stderr, "%s: some were lost\n", program);
     return (int)status;
 }
