@@ -12,13 +12,13 @@ pub struct Refusal(i32);
 
 impl Refusal {
     /// The bytes end too early.
-    pub const SHORT: Refusal = Refusal(-1);
+    pub const SHORT: Refusal = Refusal(ffi::SHORT);
     /// A stated length does not fit.
-    pub const LENGTH: Refusal = Refusal(-2);
+    pub const LENGTH: Refusal = Refusal(ffi::LENGTH);
     /// The sequence number belongs to a request that is not closed.
-    pub const IN_USE: Refusal = Refusal(-7);
+    pub const IN_USE: Refusal = Refusal(ffi::IN_USE);
     /// A datagram is not made of messages to its end.
-    pub const BYTES: Refusal = Refusal(-12);
+    pub const BYTES: Refusal = Refusal(ffi::BYTES);
 
     /// The code in `neli.h`.
     pub fn code(self) -> i32 {
@@ -104,6 +104,23 @@ pub enum SocketError {
     Ended,
 }
 
+impl SocketError {
+    /// The same error once more.
+    pub(crate) fn again(&self) -> SocketError {
+        match self {
+            SocketError::Io(it) => match it.raw_os_error() {
+                Some(number) => io::Error::from_raw_os_error(number).into(),
+                None => io::Error::new(it.kind(), it.to_string()).into(),
+            },
+            SocketError::Truncated { length, room } => SocketError::Truncated { length: *length, room: *room },
+            SocketError::De(it) => SocketError::De(it.clone()),
+            SocketError::Ser(it) => SocketError::Ser(it.clone()),
+            SocketError::Unrecorded(it) => SocketError::Unrecorded(*it),
+            SocketError::Ended => SocketError::Ended,
+        }
+    }
+}
+
 /// Why a recording has no such request.
 #[derive(Clone, Copy, Debug, PartialEq, Eq)]
 pub enum Unrecorded {
@@ -130,9 +147,10 @@ pub enum RouterError {
     /// A message came with a sequence number or a port that no request has. A router over a socket takes such messages
     /// out, so that this ends no request of it.
     BadSeqOrPid,
-    /// An acknowledgement was asked for, and something else came.
+    /// An acknowledgement was asked for, and something else came: not of a router of this crate, which reads on up to the
+    /// acknowledgement.
     NoAck,
-    /// An acknowledgement came that was not asked for.
+    /// An acknowledgement came that was not asked for: not of a router of this crate, which returns it as a reply.
     UnexpectedAck,
     /// The handle is closed.
     ClosedChannel,

@@ -16,7 +16,6 @@ pub const END: i32 = 0;
 pub const WAITS: i32 = 2;
 pub const KERNEL_ERROR: i32 = 3;
 pub const INTERRUPTED: i32 = 4;
-pub const OVERRUN: i32 = 5;
 pub const VIOLATION: i32 = 6;
 pub const SHORT: i32 = -1;
 pub const LENGTH: i32 = -2;
@@ -24,17 +23,16 @@ pub const MEMORY: i32 = -3;
 pub const ROOM: i32 = -4;
 pub const HANDLE: i32 = -6;
 pub const IN_USE: i32 = -7;
-pub const STRAY: i32 = -8;
-pub const NO_ACK: i32 = -9;
-pub const UNEXPECTED_ACK: i32 = -10;
 pub const LINK: i32 = -11;
 pub const BYTES: i32 = -12;
 pub const KIND: i32 = -15;
 pub const TABLE: i32 = -17;
 pub const UNENDED: i32 = -18;
 
-/// `NELI_ANSWERING_DUMP` of `enum neli_answering`.
-pub const ANSWERING_DUMP: u32 = 0;
+// `enum neli_reader`.
+const READER_REQUEST: u32 = 0;
+const READER_MULTICAST: u32 = 1;
+const READER_UNASKED: u32 = 2;
 
 // What Linux 6.1 added to an extended acknowledgement.
 pub const ANSWER_MISSING: u16 = 5;
@@ -94,25 +92,6 @@ pub struct Writer {
     pub end: usize,
 }
 
-/// `struct neli_sent`.
-#[repr(C)]
-#[derive(Clone, Copy, Debug, Default)]
-pub struct Sent {
-    pub length: usize,
-    pub handle: usize,
-}
-
-/// `struct neli_item`.
-#[repr(C)]
-#[derive(Clone, Copy, Debug, Default)]
-pub struct Item {
-    pub kind: u16,
-    pub flags: u16,
-    pub number: u32,
-    pub port: u32,
-    pub error: i32,
-}
-
 /// `struct neli_lent`. Its pointer is not null.
 #[repr(C)]
 #[derive(Clone, Copy, Debug)]
@@ -123,6 +102,17 @@ pub struct RawLent {
     error: i32,
 }
 
+/// `struct neli_bytes`. Its pointer is not null.
+#[repr(C)]
+#[derive(Clone, Copy, Debug)]
+struct Bytes {
+    bytes: *const u8,
+    length: usize,
+}
+
+/// No bytes.
+const NONE: &[u8] = &[];
+
 /// `struct neli_verdict`.
 #[repr(C)]
 #[derive(Clone, Copy, Debug, Default)]
@@ -131,10 +121,10 @@ pub struct Verdict {
     pub filtered: u8,
 }
 
-/// `struct neli_router`.
+/// `struct neli_session`.
 #[repr(C)]
 #[derive(Debug)]
-struct RawRouter {
+struct RawSession {
     is_open: bool,
     state: *mut c_void,
 }
@@ -151,8 +141,6 @@ unsafe extern "C" {
         count: *mut usize,
     ) -> i32;
     fn neli_c_get_answer(bytes: *const u8, length: usize, message: *const Message, answer: *mut Answer) -> i32;
-    fn neli_c_answering(protocol: i32, kind: u16, flags: u16, body_length: usize) -> u32;
-    fn neli_c_ends_answer(answering: u32, kind: u16, flags: u16) -> i32;
     fn neli_c_begin_message(
         out: *mut u8,
         room: usize,
@@ -172,34 +160,28 @@ unsafe extern "C" {
         payload_length: usize,
     ) -> i32;
     fn neli_c_end_message(out: *mut u8, room: usize, writer: *const Writer) -> i32;
-    fn neli_c_router_new(router: *mut RawRouter, port: u32) -> i32;
-    fn neli_c_router_free(router: *mut RawRouter) -> i32;
-    fn neli_c_router_set_number(router: *mut RawRouter, number: u32) -> i32;
-    fn neli_c_router_send(
-        router: *mut RawRouter,
-        kind: u16,
-        flags: u16,
-        body: *const u8,
-        body_length: usize,
-        out: *mut u8,
-        room: usize,
-        sent: *mut Sent,
-    ) -> i32;
-    fn neli_c_router_datagram(
-        router: *mut RawRouter,
+    fn neli_c_session_new(session: *mut RawSession, protocol: i32, port: u32, keeps_unasked: u8) -> i32;
+    fn neli_c_session_free(session: *mut RawSession) -> i32;
+    fn neli_c_session_send_all(session: *mut RawSession, requests: *const u8, length: usize) -> i32;
+    fn neli_c_session_next_outgoing(session: *mut RawSession) -> i32;
+    fn neli_c_session_outgoing(session: *mut RawSession, bytes: *mut Bytes) -> i32;
+    fn neli_c_session_sent(session: *mut RawSession) -> i32;
+    fn neli_c_session_not_sent(session: *mut RawSession, error_number: i32) -> i32;
+    fn neli_c_session_receive(
+        session: *mut RawSession,
         bytes: *const u8,
         length: usize,
-        groups: *const u32,
-        group_count: usize,
+        group: u32,
+        is_joined: u8,
+        taken: *mut usize,
     ) -> i32;
-    fn neli_c_router_fault(router: *mut RawRouter, error_number: i32) -> i32;
-    fn neli_c_router_read(router: *mut RawRouter, handle: usize, item: *mut Item) -> i32;
-    fn neli_c_router_listen(router: *mut RawRouter, item: *mut Item) -> i32;
-    fn neli_c_router_item(router: *mut RawRouter, out: *mut u8, room: usize, length: *mut usize) -> i32;
-    fn neli_c_router_lend(router: *mut RawRouter, handle: usize, lent: *mut RawLent) -> i32;
-    fn neli_c_router_pass(router: *mut RawRouter, handle: usize) -> i32;
-    fn neli_c_router_verdict(router: *mut RawRouter, handle: usize, verdict: *mut Verdict) -> i32;
-    fn neli_c_router_close(router: *mut RawRouter, handle: usize) -> i32;
+    fn neli_c_session_fault(session: *mut RawSession, error_number: i32) -> i32;
+    fn neli_c_session_quiet(session: *mut RawSession) -> i32;
+    fn neli_c_session_next(session: *mut RawSession, reader: u32, number: u32, lent: *mut RawLent) -> i32;
+    fn neli_c_session_pass(session: *mut RawSession, reader: u32, number: u32) -> i32;
+    fn neli_c_session_verdict(session: *mut RawSession, number: u32, verdict: *mut Verdict) -> i32;
+    fn neli_c_session_close(session: *mut RawSession, number: u32) -> i32;
+    fn neli_c_session_close_multicast(session: *mut RawSession) -> i32;
 }
 
 /// The text of a code.
@@ -232,16 +214,13 @@ pub fn get_answer(bytes: &[u8], message: &Message, answer: &mut Answer) -> i32 {
     unsafe { neli_c_get_answer(bytes.as_ptr(), bytes.len(), message, answer) }
 }
 
-/// How the kernel answers a request with a body of this length, of `enum neli_answering`.
-pub fn answering(protocol: i32, kind: u16, flags: u16, body_length: usize) -> u32 {
-    // SAFETY: no pointer is passed.
-    unsafe { neli_c_answering(protocol, kind, flags, body_length) }
-}
-
-/// Whether such an answer ends with a message of this type and with these flags.
-pub fn ends_answer(answering: u32, kind: u16, flags: u16) -> bool {
-    // SAFETY: no pointer is passed.
-    unsafe { neli_c_ends_answer(answering, kind, flags) != 0 }
+/// The messages of a datagram, each with its place, up to what is none.
+pub fn messages(datagram: &[u8]) -> impl Iterator<Item = (usize, Message)> {
+    let mut walk = Walk { place: 0, end: datagram.len() };
+    std::iter::from_fn(move || {
+        let (place, mut message) = (walk.place, Message::default());
+        (next_message(datagram, &mut walk, &mut message) == ITEM).then_some((place, message))
+    })
 }
 
 /// Begins a message at the writer's end.
@@ -268,124 +247,166 @@ pub fn end_message(out: &mut [u8], writer: &Writer) -> i32 {
     unsafe { neli_c_end_message(out.as_mut_ptr(), out.len(), writer) }
 }
 
-/// A router of the library that is open until it is dropped. Each call is `&mut`, so that no two overlap, and forgets
+/// Whose reads these are.
+#[derive(Clone, Copy, Debug, PartialEq, Eq, Hash)]
+pub enum Reader {
+    /// The answer to the request with this number.
+    Request(u32),
+    /// What came to groups.
+    Multicast,
+    /// What answers no request.
+    Unasked,
+}
+
+impl Reader {
+    /// One of `enum neli_reader`, and of a request its number.
+    fn raw(self) -> (u32, u32) {
+        match self {
+            Reader::Request(number) => (READER_REQUEST, number),
+            Reader::Multicast => (READER_MULTICAST, 0),
+            Reader::Unasked => (READER_UNASKED, 0),
+        }
+    }
+}
+
+/// A session of the library that is open until it is dropped. Each call is `&mut`, so that no two overlap, and forgets
 /// what is lent, so that it is read only until then.
 #[derive(Debug)]
-pub struct Router {
-    raw: RawRouter,
+pub struct Session {
+    raw: RawSession,
     lent: Option<RawLent>,
 }
 
 // SAFETY: the state is memory of the C library's heap, which any thread may use and free, and the library keeps nothing
-// of a thread. It is reached by `&mut` alone, and what is lent of it by a borrow of the router.
-unsafe impl Send for Router {}
+// of a thread. It is reached by `&mut` alone, and what is lent of it by a borrow of the session.
+unsafe impl Send for Session {}
 
-impl Router {
-    /// A router for a port, or the code of a refusal.
-    pub fn new(port: u32) -> Result<Router, i32> {
-        let mut raw = RawRouter { is_open: false, state: std::ptr::null_mut() };
-        // SAFETY: all bytes of a closed router are zero, and the library keeps nothing of its address, so that it may
+impl Session {
+    /// A session of a protocol and a port that also keeps what answers no request, or the code of a refusal.
+    pub fn new(protocol: i32, port: u32) -> Result<Session, i32> {
+        let mut raw = RawSession { is_open: false, state: std::ptr::null_mut() };
+        // SAFETY: all bytes of a closed session are zero, and the library keeps nothing of its address, so that it may
         // be moved afterwards; it is neither `Copy` nor `Clone`.
-        match unsafe { neli_c_router_new(&mut raw, port) } {
-            END => Ok(Router { raw, lent: None }),
+        match unsafe { neli_c_session_new(&mut raw, protocol, port, 1) } {
+            END => Ok(Session { raw, lent: None }),
             code => Err(code),
         }
     }
 
-    /// The router for a call, which ends what is lent.
-    fn raw(&mut self) -> &mut RawRouter {
+    /// The session for a call, which ends what is lent.
+    fn raw(&mut self) -> &mut RawSession {
         self.lent = None;
         &mut self.raw
     }
 
-    /// Sets the sequence number of the next request.
-    pub fn set_number(&mut self, number: u32) -> i32 {
-        // SAFETY: the router is open, and borrowed exclusively.
-        unsafe { neli_c_router_set_number(self.raw(), number) }
+    /// Queues requests as one datagram: whole messages with numbers of their own.
+    pub fn send_all(&mut self, requests: &[u8]) -> i32 {
+        // SAFETY: the session is open, and borrowed exclusively; pointer and length are those of one slice, which the
+        // library copies.
+        unsafe { neli_c_session_send_all(self.raw(), requests.as_ptr(), requests.len()) }
     }
 
-    /// A request with this body, written into `out`.
-    pub fn send(&mut self, kind: u16, flags: u16, body: &[u8], out: &mut [u8], sent: &mut Sent) -> i32 {
-        // SAFETY: the router is open, and borrowed exclusively; each pointer and its length are those of one slice, and
-        // that of `out` is exclusive, so they are apart.
+    /// The datagram to send next, if one may go out now.
+    pub fn outgoing(&mut self) -> Option<&[u8]> {
+        let mut bytes = Bytes { bytes: NONE.as_ptr(), length: 0 };
+        // SAFETY: the session is open, and borrowed exclusively, as `bytes` is, whose pointer is not null. What is
+        // written there is the place of bytes that stay until the next call, which the returned borrow excludes.
         unsafe {
-            neli_c_router_send(self.raw(), kind, flags, body.as_ptr(), body.len(), out.as_mut_ptr(), out.len(), sent)
+            if neli_c_session_next_outgoing(self.raw()) != ITEM
+                || neli_c_session_outgoing(self.raw(), &mut bytes) != ITEM
+            {
+                return None;
+            }
+            Some(std::slice::from_raw_parts(bytes.bytes, bytes.length))
         }
     }
 
-    /// Takes in a datagram that arrived for these groups.
-    pub fn datagram(&mut self, bytes: &[u8], groups: &[u32]) -> i32 {
-        // SAFETY: the router is open, and borrowed exclusively; each pointer and its length are those of one slice.
-        // The library copies what it keeps.
-        unsafe { neli_c_router_datagram(self.raw(), bytes.as_ptr(), bytes.len(), groups.as_ptr(), groups.len()) }
+    /// That datagram was sent.
+    pub fn sent(&mut self) {
+        // SAFETY: the session is open, and borrowed exclusively.
+        unsafe { neli_c_session_sent(self.raw()) };
     }
 
-    /// Takes in a fault of the socket.
+    /// That datagram was not sent.
+    pub fn not_sent(&mut self, error_number: i32) {
+        // SAFETY: the session is open, and borrowed exclusively.
+        unsafe { neli_c_session_not_sent(self.raw(), error_number) };
+    }
+
+    /// Takes in a datagram of a group: the code, and how many of its bytes were taken in.
+    pub fn receive(&mut self, bytes: &[u8], group: u32, is_joined: bool) -> (i32, usize) {
+        let mut taken = 0;
+        // SAFETY: the session is open, and borrowed exclusively, as `taken` is; pointer and length are those of one
+        // slice, of which the library copies what it keeps.
+        let code = unsafe {
+            neli_c_session_receive(self.raw(), bytes.as_ptr(), bytes.len(), group, is_joined.into(), &mut taken)
+        };
+        (code, taken)
+    }
+
+    /// Takes in a fault of the link.
     pub fn fault(&mut self, error_number: i32) -> i32 {
-        // SAFETY: the router is open, and borrowed exclusively.
-        unsafe { neli_c_router_fault(self.raw(), error_number) }
+        // SAFETY: the session is open, and borrowed exclusively.
+        unsafe { neli_c_session_fault(self.raw(), error_number) }
     }
 
-    /// Reads the next item of a handle.
-    pub fn read(&mut self, handle: usize, item: &mut Item) -> i32 {
-        // SAFETY: the router is open, and borrowed exclusively, as `item` is.
-        unsafe { neli_c_router_read(self.raw(), handle, item) }
+    /// The link was seen empty.
+    pub fn quiet(&mut self) {
+        // SAFETY: the session is open, and borrowed exclusively.
+        unsafe { neli_c_session_quiet(self.raw()) };
     }
 
-    /// Reads the next item of multicast.
-    pub fn listen(&mut self, item: &mut Item) -> i32 {
-        // SAFETY: the router is open, and borrowed exclusively, as `item` is.
-        unsafe { neli_c_router_listen(self.raw(), item) }
-    }
-
-    /// The bytes of the item that was read last.
-    pub fn item(&mut self, out: &mut [u8], length: &mut usize) -> i32 {
-        // SAFETY: the router is open, and borrowed exclusively; pointer and length are those of one exclusive slice.
-        unsafe { neli_c_router_item(self.raw(), out.as_mut_ptr(), out.len(), length) }
-    }
-
-    /// Lends the next item of a handle: `lent` returns it, until the next call.
-    pub fn lend(&mut self, handle: usize) -> i32 {
-        let empty: &'static [u8] = &[];
-        let mut lent = RawLent { message: Message::default(), bytes: empty.as_ptr(), length: 0, error: 0 };
-        // SAFETY: the router is open, and borrowed exclusively, as `lent` is, whose pointer is not null. What is
+    /// The code of a reader's next item, and the error beside it. A message is lent: `lent` returns it, until the next
+    /// call.
+    pub fn next(&mut self, reader: Reader) -> (i32, i32) {
+        let (reader, number) = reader.raw();
+        let mut lent = RawLent { message: Message::default(), bytes: NONE.as_ptr(), length: 0, error: 0 };
+        // SAFETY: the session is open, and borrowed exclusively, as `lent` is, whose pointer is not null. What is
         // written there is kept as long as no other call is made.
-        let code = unsafe { neli_c_router_lend(self.raw(), handle, &mut lent) };
+        let code = unsafe { neli_c_session_next(self.raw(), reader, number, &mut lent) };
         self.lent = matches!(code, ITEM | KERNEL_ERROR).then_some(lent);
-        code
+        (code, lent.error)
     }
 
-    /// The item that the last call has lent, if it was `lend` and there was one: its header, and its payload.
+    /// The item that the last call has lent, if it was `next` and there was one: its header, and its payload.
     pub fn lent(&self) -> Option<(&Message, &[u8])> {
         let lent = self.lent.as_ref()?;
-        // SAFETY: the library keeps these bytes until the next call of the router, which takes `&mut self`, and each
-        // sets `lent` to none before. So they stay while this borrow of the router does.
+        // SAFETY: the library keeps these bytes until the next call of the session, which takes `&mut self`, and each
+        // sets `lent` to none before. So they stay while this borrow of the session does.
         Some((&lent.message, unsafe { std::slice::from_raw_parts(lent.bytes, lent.length) }))
     }
 
-    /// Goes on to the next item of a handle.
-    pub fn pass(&mut self, handle: usize) -> i32 {
-        // SAFETY: the router is open, and borrowed exclusively.
-        unsafe { neli_c_router_pass(self.raw(), handle) }
+    /// Goes on to a reader's next item.
+    pub fn pass(&mut self, reader: Reader) {
+        let (reader, number) = reader.raw();
+        // SAFETY: the session is open, and borrowed exclusively.
+        unsafe { neli_c_session_pass(self.raw(), reader, number) };
     }
 
-    /// The verdict on the answer to a handle's request.
-    pub fn verdict(&mut self, handle: usize, verdict: &mut Verdict) -> i32 {
-        // SAFETY: the router is open, and borrowed exclusively, as `verdict` is.
-        unsafe { neli_c_router_verdict(self.raw(), handle, verdict) }
+    /// The code of the verdict on the answer to a request, and the error beside it.
+    pub fn verdict(&mut self, number: u32) -> (i32, i32) {
+        let mut verdict = Verdict::default();
+        // SAFETY: the session is open, and borrowed exclusively, as `verdict` is.
+        (unsafe { neli_c_session_verdict(self.raw(), number, &mut verdict) }, verdict.error)
     }
 
-    /// Closes a handle.
-    pub fn close(&mut self, handle: usize) -> i32 {
-        // SAFETY: the router is open, and borrowed exclusively.
-        unsafe { neli_c_router_close(self.raw(), handle) }
+    /// Closes a request.
+    pub fn close(&mut self, number: u32) {
+        // SAFETY: the session is open, and borrowed exclusively.
+        unsafe { neli_c_session_close(self.raw(), number) };
+    }
+
+    /// Closes multicast.
+    pub fn close_multicast(&mut self) {
+        // SAFETY: the session is open, and borrowed exclusively.
+        unsafe { neli_c_session_close_multicast(self.raw()) };
     }
 }
 
-impl Drop for Router {
+impl Drop for Session {
     fn drop(&mut self) {
-        // SAFETY: the router is open, and nobody uses it afterwards.
-        unsafe { neli_c_router_free(self.raw()) };
+        // SAFETY: the session is open, and nobody uses it afterwards.
+        unsafe { neli_c_session_free(self.raw()) };
     }
 }
 

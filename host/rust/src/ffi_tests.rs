@@ -2,20 +2,19 @@
 
 use super::kernel::{RawDump, Request};
 use super::tables::{Named, RawTables};
-use super::{Answer, Attribute, Item, Message, RawLent, RawRouter, Sent, Verdict, Walk, Writer};
+use super::{Answer, Attribute, Bytes, Message, RawLent, RawSession, Verdict, Walk, Writer};
 use std::mem::offset_of;
 
 const HEADER: &str = include_str!(env!("NELI_FILE_NELI_H"));
 const DECLARED: &str = concat!(include_str!("ffi.rs"), include_str!("ffi/kernel.rs"), include_str!("ffi/tables.rs"));
 
 /// The codes that this crate names.
-const CODES: [(&str, i32); 21] = [
+const CODES: [(&str, i32); 17] = [
     ("NELI_ITEM", super::ITEM),
     ("NELI_END", super::END),
     ("NELI_WAITS", super::WAITS),
     ("NELI_KERNEL_ERROR", super::KERNEL_ERROR),
     ("NELI_INTERRUPTED", super::INTERRUPTED),
-    ("NELI_OVERRUN", super::OVERRUN),
     ("NELI_VIOLATION", super::VIOLATION),
     ("NELI_SHORT", super::SHORT),
     ("NELI_LENGTH", super::LENGTH),
@@ -23,9 +22,6 @@ const CODES: [(&str, i32); 21] = [
     ("NELI_ROOM", super::ROOM),
     ("NELI_HANDLE", super::HANDLE),
     ("NELI_IN_USE", super::IN_USE),
-    ("NELI_STRAY", super::STRAY),
-    ("NELI_NO_ACK", super::NO_ACK),
-    ("NELI_UNEXPECTED_ACK", super::UNEXPECTED_ACK),
     ("NELI_LINK", super::LINK),
     ("NELI_BYTES", super::BYTES),
     ("NELI_KIND", super::KIND),
@@ -48,11 +44,10 @@ fn rust_type(c: &str) -> String {
         "struct neli_attribute" => "Attribute",
         "struct neli_answer" => "Answer",
         "struct neli_writer" => "Writer",
-        "struct neli_sent" => "Sent",
-        "struct neli_item" => "Item",
         "struct neli_lent" => "RawLent",
         "struct neli_verdict" => "Verdict",
-        "struct neli_router" => "RawRouter",
+        "struct neli_session" => "RawSession",
+        "struct neli_bytes" => "Bytes",
         "struct neli_request" => "Request",
         "struct neli_kernel_dump" => "RawDump",
         "struct neli_tables" => "RawTables",
@@ -104,7 +99,14 @@ fn codes_are_those_of_the_header() {
         let line = format!("    {name} = {code}");
         assert!(HEADER.contains(&format!("{line},")) || HEADER.contains(&format!("{line} ")), "{name}");
     }
-    assert!(HEADER.contains(&format!("NELI_ANSWERING_DUMP = {},", super::ANSWERING_DUMP)));
+    let readers = [
+        ("REQUEST", super::READER_REQUEST),
+        ("MULTICAST", super::READER_MULTICAST),
+        ("UNASKED", super::READER_UNASKED),
+    ];
+    for (name, number) in readers {
+        assert!(HEADER.contains(&format!("NELI_READER_{name} = {number}")), "{name}");
+    }
     let attributes =
         [("NELI_ANSWER_MISSING", super::ANSWER_MISSING), ("NELI_ANSWER_MISSING_NEST", super::ANSWER_MISSING_NEST)];
     for (name, number) in attributes {
@@ -121,11 +123,10 @@ fn structs_are_laid_out_as_in_c() {
         (size_of::<Attribute>(), 24),
         (size_of::<Answer>(), 40),
         (size_of::<Writer>(), 16),
-        (size_of::<Sent>(), 16),
-        (size_of::<Item>(), 16),
         (size_of::<RawLent>(), 56),
         (size_of::<Verdict>(), 8),
-        (size_of::<RawRouter>(), 16),
+        (size_of::<RawSession>(), 16),
+        (size_of::<Bytes>(), 16),
         (size_of::<Request>(), 48),
         (size_of::<RawDump>(), 16),
         (size_of::<RawTables>(), 16),
@@ -137,10 +138,9 @@ fn structs_are_laid_out_as_in_c() {
     assert_eq!((offset_of!(Message, number), offset_of!(Message, payload)), (8, 16));
     assert_eq!((offset_of!(Attribute, number), offset_of!(Attribute, payload)), (4, 8));
     assert_eq!((offset_of!(Answer, echo_number), offset_of!(Answer, attributes)), (12, 24));
-    assert_eq!((offset_of!(Item, number), offset_of!(Item, error)), (4, 12));
     assert_eq!((offset_of!(RawLent, bytes), offset_of!(RawLent, length), offset_of!(RawLent, error)), (32, 40, 48));
     assert_eq!(offset_of!(Verdict, filtered), 4);
-    assert_eq!(offset_of!(RawRouter, state), 8);
+    assert_eq!((offset_of!(RawSession, state), offset_of!(Bytes, length)), (8, 8));
     assert_eq!((offset_of!(Request, port), offset_of!(Request, wants_echo)), (32, 40));
     assert_eq!(offset_of!(RawDump, state), 8);
     assert_eq!(offset_of!(RawTables, state), 8);

@@ -87,13 +87,17 @@ pub trait Link: fmt::Debug + Send + Sync {
     /// The port that replies come to.
     fn port(&self) -> u32;
 
-    /// Sends a datagram of one or more requests. Where it is refused, a router takes these as not sent. A socket
-    /// refuses as [`SocketError::Io`], a [`Recording`](crate::recording::Recording) as [`SocketError::Unrecorded`], and
-    /// a simulated kernel as [`SocketError::De`] or [`SocketError::Ser`].
+    /// Sends a datagram of one or more requests. Where it is refused, a router takes these as not sent; but as
+    /// `WouldBlock`, it sends the datagram again later. A router calls it while it receives. A socket refuses as
+    /// [`SocketError::Io`], a [`Recording`](crate::recording::Recording) as [`SocketError::Unrecorded`], and a
+    /// simulated kernel as [`SocketError::De`] or [`SocketError::Ser`].
     fn send(&self, datagram: &[u8]) -> Result<(), SocketError>;
 
     /// The next datagram of the kernel, at the front of `room`, which may be longer; none where nothing is there. It
     /// does not wait. A fault is reported once, in its place; what comes after it is given as before.
+    ///
+    /// The kernel answers while a request is sent. So a router takes none as the end of what answers the requests that
+    /// it has sent, but where [`answers_later`](Link::answers_later) says otherwise.
     ///
     /// A fault is refused as [`SocketError::Io`] with the system's number, or as [`SocketError::Truncated`]: a router
     /// gives it to each open request and to listeners. Any other refusal ends only the router's call.
@@ -107,6 +111,12 @@ pub trait Link: fmt::Debug + Send + Sync {
         Err(SocketError::Ended)
     }
 
+    /// Whether answers may still come after [`receive`](Link::receive) returned none, as over a tunnel. A request then
+    /// waits until its answer has ended.
+    fn answers_later(&self) -> bool {
+        false
+    }
+
     /// Ends the wait that is under way, or else the next one.
     fn wake(&self) {}
 
@@ -118,8 +128,7 @@ pub trait Link: fmt::Debug + Send + Sync {
         None
     }
 
-    /// The family of netlink that it leads to, by which a router knows which requests begin a dump: in routing a
-    /// get with either bit of DUMP, else any with both.
+    /// The family of netlink that it leads to, by which a router knows how the kernel answers a request.
     fn family(&self) -> NlFamily {
         NlFamily::Route
     }
@@ -166,6 +175,10 @@ macro_rules! pointers {
 
             fn wait(&self, limit: Option<Duration>) -> Result<(), SocketError> {
                 (**self).wait(limit)
+            }
+
+            fn answers_later(&self) -> bool {
+                (**self).answers_later()
             }
 
             fn wake(&self) {

@@ -226,18 +226,6 @@ impl<T: NlType, P: FromBytes> Nlmsghdr<T, P> {
             nl_payload,
         })
     }
-
-    /// The one message in these bytes, padding left out.
-    pub(crate) fn of_bytes(bytes: &[u8]) -> Result<Self, DeError> {
-        let mut padded = bytes.to_vec();
-        padded.resize(bytes.len().next_multiple_of(4), 0);
-        let mut walk = ffi::Walk { place: 0, end: padded.len() };
-        let mut head = ffi::Message::default();
-        match ffi::next_message(&padded, &mut walk, &mut head) {
-            ffi::ITEM => Self::of_message(&padded, &head),
-            code => Err(refused(code).into()),
-        }
-    }
 }
 
 impl<T: NlType, P> Nlmsghdr<T, P> {
@@ -422,18 +410,23 @@ impl<T: NlType, P: ToBytes> ToBytes for Nlmsghdr<T, P> {
 
 #[cfg(test)]
 mod tests {
-    use super::Nlmsghdr;
+    use super::{NlBufferIter, Nlmsgerr};
     use crate::err::RouterError;
     use crate::types::Buffer;
+
+    /// The refusal in a datagram of these words.
+    fn refusal(words: &[u32]) -> Nlmsgerr<u16> {
+        let bytes = words.iter().flat_map(|it| it.to_ne_bytes()).collect();
+        let message = NlBufferIter::<u16, Buffer>::new(bytes).next().expect("a message").expect("is read");
+        message.into_err().expect("is an error")
+    }
 
     #[test]
     fn an_error_may_have_any_code() {
         let named = [(-19, Some(19), Some("ENODEV")), (-524, Some(524), Some("ENOTSUPP")), (-4095, Some(4095), None)];
         let others = [(-5000, Some(5000), None), (19, None, None), (i32::MIN, None, None)];
         for (code, number, name) in named.into_iter().chain(others) {
-            let words = [36, 2, 0, 0, code as u32, 16, 16, 0, 0];
-            let bytes: Vec<u8> = words.iter().flat_map(|it| it.to_ne_bytes()).collect();
-            let answer = Nlmsghdr::<u16, Buffer>::of_bytes(&bytes).expect("is read").into_err().expect("is an error");
+            let answer = refusal(&[36, 2, 0, 0, code as u32, 16, 16, 0, 0]);
             assert_eq!(answer.errno_name(), name);
             let error = RouterError::Nlmsgerr(answer);
             assert_eq!((error.errno(), error.errno_name()), (number, name));
@@ -444,8 +437,7 @@ mod tests {
     fn a_missing_attribute_has_its_number_and_its_nest() {
         // EINVAL with the flag ACK_TLVS, the echoed header, and NLMSGERR_ATTR_MISS_TYPE and NLMSGERR_ATTR_MISS_NEST.
         let words = [52, 2 | 0x200 << 16, 0, 0, -22i32 as u32, 16, 16, 0, 0, 8 | 5 << 16, 1, 8 | 6 << 16, 32];
-        let bytes: Vec<u8> = words.iter().flat_map(|it| it.to_ne_bytes()).collect();
-        let answer = Nlmsghdr::<u16, Buffer>::of_bytes(&bytes).expect("is read").into_err().expect("is an error");
+        let answer = refusal(&words);
         assert_eq!((answer.missing_type(), answer.missing_nest()), (Some(1), Some(32)));
         assert_eq!((answer.text(), answer.offset()), (None, None));
     }

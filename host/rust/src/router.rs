@@ -1,6 +1,5 @@
 //! A router: it delivers each reply to its request.
 
-mod ledger;
 pub mod lending;
 mod names;
 mod notice;

@@ -11,7 +11,7 @@ use neli::link::{Arrived, Link};
 use neli::nl::NlPayload;
 use neli::recording::{PcapError, Recorder, Recording, Way};
 use neli::router::lending::LendingRouter;
-use neli::router::synchronous::{Missed, NlRouter, Notice, Verdict};
+use neli::router::synchronous::{Loss, Missed, NlRouter, Notice, Verdict};
 use neli::rtnl::{Ifaddrmsg, IfaddrmsgBuilder, Ifinfomsg, IfinfomsgBuilder, RtattrBuilder};
 use neli::types::Buffer;
 use std::io::{self, ErrorKind};
@@ -123,12 +123,11 @@ fn a_request_that_differs_is_refused_with_its_place() -> Outcome {
 }
 
 #[test]
-fn an_answer_that_lacks_its_end_ends_the_wait() -> Outcome {
+fn an_answer_that_lacks_its_end_is_not_complete() -> Outcome {
     let mut cut = Recording::new(NlFamily::Route);
     cut.extend(routing(ADDRESSES)?.frames()[..2].iter().cloned());
     let (router, _) = NlRouter::over(cut)?;
-    let Err(RouterError::Socket(error)) = addresses(&router) else { return Err("the list has an end".into()) };
-    assert!(matches!(error, SocketError::Ended), "{error}");
+    assert_eq!(addresses(&router)?, (listed(), Verdict::Lost(Loss::Unended)));
     Ok(())
 }
 
@@ -335,12 +334,12 @@ fn each_request_has_its_own_fault() -> Outcome {
 }
 
 #[test]
-fn a_link_on_which_nothing_comes_ends_each_wait_and_each_handle() -> Outcome {
+fn a_link_on_which_nothing_comes_ends_each_request_and_each_wait() -> Outcome {
     let (router, mut multicast) = NlRouter::over(Box::new(Silent) as Box<dyn Link>)?;
     assert_eq!(router.pid(), 3);
     let mut replies = router.send::<_, Buffer, u16, Buffer>(Nlmsg::Noop, NlmF::ACK, NlPayload::Empty)?;
-    assert!(matches!(replies.next(), Some(Err(RouterError::Socket(SocketError::Ended)))));
-    assert!(replies.next().is_none() && replies.verdict() == Verdict::Pending);
+    assert_eq!(replies.verdict(), Verdict::Pending);
+    assert!(replies.next().is_none() && replies.verdict() == Verdict::Lost(Loss::Unended));
     assert!(matches!(multicast.next(), Some(Err(RouterError::Socket(SocketError::Ended)))));
     assert!(multicast.next().is_none());
     let mut written = Vec::new();

@@ -3,12 +3,11 @@
 use super::{Frame, Recording, Way};
 use crate::consts::socket::NlFamily;
 use crate::err::{SocketError, Unrecorded};
-use crate::ffi;
+use crate::ffi::{self, messages};
 use crate::link::{Arrived, Link, LinkOption};
 use crate::utils::NetlinkBitArray;
 use std::collections::{BTreeSet, HashMap, HashSet};
 use std::io;
-use std::iter;
 use std::ops::Range;
 use std::sync::{MutexGuard, PoisonError};
 use std::time::Duration;
@@ -39,15 +38,6 @@ pub(super) struct Play {
     numbers: HashMap<Asked, [u8; 8]>,
     groups: BTreeSet<u32>,
     options: HashSet<LinkOption>,
-}
-
-/// The messages of a datagram, each with its place.
-fn messages(datagram: &[u8]) -> impl Iterator<Item = (usize, ffi::Message)> {
-    let mut walk = ffi::Walk { place: 0, end: datagram.len() };
-    iter::from_fn(move || {
-        let (place, mut message) = (walk.place, ffi::Message::default());
-        (ffi::next_message(datagram, &mut walk, &mut message) == ffi::ITEM).then_some((place, message))
-    })
 }
 
 fn is_request(frame: &Frame) -> bool {

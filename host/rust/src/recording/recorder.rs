@@ -5,6 +5,7 @@ use crate::consts::socket::NlFamily;
 use crate::err::SocketError;
 use crate::link::{Arrived, Link, LinkOption};
 use crate::utils::NetlinkBitArray;
+use std::os::fd::{AsFd, BorrowedFd};
 use std::sync::{Mutex, MutexGuard, PoisonError};
 use std::time::Duration;
 
@@ -64,6 +65,13 @@ impl<L: Link> Recorder<L> {
 
     fn keep(&self, way: Way, bytes: &[u8]) {
         self.frames().push(Frame { time: now(), way, bytes: bytes.to_vec() });
+    }
+}
+
+/// That of the link that it is over.
+impl<L: AsFd> AsFd for Recorder<L> {
+    fn as_fd(&self) -> BorrowedFd<'_> {
+        self.link.as_fd()
     }
 }
 

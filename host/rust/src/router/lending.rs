@@ -1,16 +1,19 @@
 //! A router that lends: each item is read where the library keeps it, and no byte is copied.
 
-use super::state::{Lend, MULTICAST, State};
+use super::shared::Shared;
+use super::state::State;
 use super::verdict::Verdict;
 use crate::ToBytes;
 use crate::consts::nl::NlmF;
 use crate::consts::socket::NlFamily;
 use crate::err::RouterError;
+use crate::ffi::Reader;
 use crate::lent::LentMessage;
 use crate::link::Link;
 use crate::nl::{NlPayload, NlType};
-use crate::socket::synchronous::{NlSocketHandle, Wait};
+use crate::socket::synchronous::NlSocketHandle;
 use crate::utils::Groups;
+use std::os::fd::{AsFd, BorrowedFd};
 use std::sync::Arc;
 
 /// A router with one owner, over a link of its own, by default a socket.
@@ -40,16 +43,20 @@ use std::sync::Arc;
 /// ```
 #[derive(Debug)]
 pub struct LendingRouter<L = NlSocketHandle> {
-    state: State,
+    shared: Shared,
     link: Arc<L>,
 }
 
 /// The handle of the items of one request, or of multicast. It is only for the router that returned it. Items that
 /// still arrive for one that is not closed are kept until the router is dropped.
 #[derive(Debug)]
-pub struct LendingHandle {
-    handle: usize,
-    number: Option<u32>,
+pub struct LendingHandle(Reader);
+
+/// The descriptor of its link.
+impl<L: AsFd> AsFd for LendingRouter<L> {
+    fn as_fd(&self) -> BorrowedFd<'_> {
+        self.link.as_fd()
+    }
 }
 
 impl LendingRouter {
@@ -100,8 +107,8 @@ impl<L: Link + 'static> LendingRouter<L> {
     /// ```
     pub fn over(link: L) -> Result<(Self, LendingHandle), RouterError> {
         let link = Arc::new(link);
-        let state = State::new(Arc::clone(&link) as Arc<dyn Link>)?;
-        Ok((LendingRouter { state, link }, LendingHandle { handle: MULTICAST, number: None }))
+        let shared = Shared::over(Arc::clone(&link) as Arc<dyn Link>)?;
+        Ok((LendingRouter { shared, link }, LendingHandle(Reader::Multicast)))
     }
 
     /// The link.
@@ -109,8 +116,8 @@ impl<L: Link + 'static> LendingRouter<L> {
         &self.link
     }
 
-    /// Sends a request, and returns the handle of its items. A dump is sent when the one before has ended, whose items
-    /// wait at their handle.
+    /// Sends a request, and returns the handle of its items. It does not wait, as
+    /// [`NlRouter::send`](super::synchronous::NlRouter::send).
     ///
     /// Refused if the body can't be written, as `SeqInUse` if an answer with its number may still arrive, if the link
     /// refuses to send it, and if memory runs out.
@@ -120,14 +127,8 @@ impl<L: Link + 'static> LendingRouter<L> {
         nl_flags: NlmF,
         nl_payload: NlPayload<T, P>,
     ) -> Result<LendingHandle, RouterError> {
-        let (kind, body) = (nl_type.into(), nl_payload.body()?);
-        self.state.settle(self.state.answering(kind, nl_flags, &body).is_dump())?;
-        let (bytes, number, handle) = self.state.request(kind, nl_flags, &body)?;
-        if let Err(error) = self.link.send(&bytes) {
-            self.state.take_back(number);
-            return Err(error.into());
-        }
-        Ok(LendingHandle { handle, number: Some(number) })
+        let sent = self.shared.send(&[(nl_type.into(), nl_flags, nl_payload.body()?)])?;
+        sent.first().map_or(Err(RouterError::ClosedChannel), |it| Ok(LendingHandle(*it)))
     }
 
     /// Lends the next item of a handle, until the next call of the router; none after the last. It waits until one
@@ -138,44 +139,24 @@ impl<L: Link + 'static> LendingRouter<L> {
     /// and is passed. Refused also if the wait has ended, if memory runs out, and as `ClosedChannel` if the handle is
     /// not open.
     pub fn lend_next(&mut self, handle: &LendingHandle) -> Result<Option<LentMessage<'_>>, RouterError> {
-        let wait = Wait::begin(self.link.limit());
-        let mut has_come = false;
-        loop {
-            match self.state.lend(handle.handle) {
-                Lend::Item => return Ok(self.state.lent()),
-                Lend::Error(error) => return Err(error),
-                Lend::End => return Ok(None),
-                Lend::Waits => {}
-            }
-            if has_come {
-                wait.goes_on()?;
-            }
-            has_come = self.state.receive()?;
-            if !has_come {
-                self.link.wait(wait.left()?)?;
-            }
-        }
+        let has_item = self.shared.next(handle.0, State::lend)?;
+        Ok(self.shared.state_mut().lent().filter(|_| has_item))
     }
 
-    /// Goes on to a handle's next item; if none waits, nothing changes.
-    ///
-    /// Refused only as `Memory`, at a message of multicast that is an error or can't be read, which then stays the next
-    /// one.
+    /// Goes on to a handle's next item; if none waits, nothing changes. It is never refused.
     pub fn pass(&mut self, handle: &LendingHandle) -> Result<(), RouterError> {
-        self.state.pass(handle.handle)
+        self.shared.state_mut().pass(handle.0);
+        Ok(())
     }
 
     /// The verdict on the answer to a handle's request, by the items that were passed: whether they are all. That on
     /// multicast is always `Pending`.
     pub fn verdict(&mut self, handle: &LendingHandle) -> Verdict {
-        handle.number.map_or(Verdict::Pending, |_| self.state.verdict(handle.handle).0)
+        self.shared.state_mut().verdict(handle.0)
     }
 
     /// Closes a handle. Messages that still arrive for its request are dropped.
     pub fn close(&mut self, handle: LendingHandle) {
-        match handle.number {
-            Some(number) => self.state.give_up(number),
-            None => self.state.close(MULTICAST),
-        }
+        self.shared.state_mut().close(handle.0);
     }
 }

@@ -4,14 +4,14 @@
 //! threads can read handles of one router at a time: one of them waits at the socket, the others until their handles
 //! have something.
 
-use super::ledger::Answering;
 pub use super::notice::{Missed, Notice};
 use super::shared::Shared;
-use super::state::{MULTICAST, UNASKED};
+use super::state::{Owned, State};
 pub use super::verdict::{Dump, Loss, Verdict};
 use crate::consts::nl::NlmF;
 use crate::consts::socket::NlFamily;
 use crate::err::RouterError;
+use crate::ffi::Reader;
 use crate::link::{Link, LinkOption};
 use crate::nl::{NlPayload, NlType, Nlmsghdr};
 use crate::socket::synchronous::{NlSocketHandle, is_end_of_wait, is_stop};
@@ -19,7 +19,9 @@ use crate::types::Buffer;
 use crate::utils::{Groups, NetlinkBitArray};
 use crate::{FromBytes, ToBytes};
 use std::marker::PhantomData;
-use std::sync::{Arc, Condvar};
+use std::os::fd::{AsFd, BorrowedFd};
+use std::sync::Arc;
+use std::task::Poll;
 
 /// A router over a link of its own, by default a socket. Handles can outlive it. What the link refuses is refused as
 /// [`RouterError::Socket`] with its error.
@@ -33,6 +35,13 @@ pub struct NlRouter<L = NlSocketHandle> {
 impl<L> Clone for NlRouter<L> {
     fn clone(&self) -> Self {
         NlRouter { shared: Arc::clone(&self.shared), link: Arc::clone(&self.link) }
+    }
+}
+
+/// The descriptor of its link.
+impl<L: AsFd> AsFd for NlRouter<L> {
+    fn as_fd(&self) -> BorrowedFd<'_> {
+        self.link.as_fd()
     }
 }
 
@@ -95,7 +104,7 @@ impl<L: Link + 'static> NlRouter<L> {
         let link = Arc::new(link);
         let shared = Shared::over(Arc::clone(&link) as Arc<dyn Link>)?;
         let router = NlRouter { shared: Arc::new(shared), link };
-        let multicast = NlRouterReceiverHandle::new(&router.shared, MULTICAST, Of::Groups);
+        let multicast = NlRouterReceiverHandle::new(&router.shared, Reader::Multicast);
         Ok((router, multicast))
     }
 
@@ -149,7 +158,18 @@ impl<L: Link + 'static> NlRouter<L> {
 
     /// Sets the sequence number of the next request. The first is 0.
     pub fn set_next_seq(&self, number: u32) {
-        self.shared.state().set_number(number);
+        self.shared.state().number = number;
+    }
+
+    /// Takes in all that has arrived, for every handle, and sends what may go out then; it does not wait. For a loop of
+    /// your own, which waits for the descriptor: call this once it is readable, by level or by edge, and then
+    /// [`try_next`](NlRouterReceiverHandle::try_next) of each handle, as long as something is there. After a call of
+    /// this router that sends or waits, read them too, since there may be something then.
+    ///
+    /// Refused if the link fails again and again, as `Memory` if memory runs out, and as `WouldBlock` if more still
+    /// arrives when the time of a wait is over; then nothing is lost, and the next call goes on.
+    pub fn receive(&self) -> Result<(), RouterError> {
+        self.shared.receive_all(|_| {})
     }
 
     /// Ends every current wait at a handle, and each later one, with the system's `ECANCELED`; after it the handle
@@ -160,24 +180,19 @@ impl<L: Link + 'static> NlRouter<L> {
 
     /// Sends a request, and returns the handle of its replies.
     ///
-    /// A dump is sent when the one before has ended, whose replies wait at their handle.
+    /// It does not wait. A dump goes out by the reads of any handle once the one before has ended, and after a loss any
+    /// request once the link was seen empty; if the link refuses it then, its handle reads that.
     ///
     /// Refused as [`RouterError::Ser`] if the body can't be written or the length exceeds 32 bits, as
     /// [`RouterError::SeqInUse`] if its number is that of a request whose handle is open or whose answer may still
     /// arrive, as [`RouterError::Memory`] if memory runs out, and if the link refuses.
-    pub fn send<ST, SP, RT, RP>(
+    pub fn send<ST: NlType, SP: ToBytes, RT, RP>(
         &self,
         nl_type: ST,
         nl_flags: NlmF,
         nl_payload: NlPayload<ST, SP>,
-    ) -> Result<NlRouterReceiverHandle<RT, RP>, RouterError>
-    where
-        ST: NlType,
-        SP: ToBytes,
-    {
-        let (kind, body) = (nl_type.into(), nl_payload.body()?);
-        let (number, handle) = self.shared.send(kind, nl_flags, &body)?;
-        Ok(NlRouterReceiverHandle::new(&self.shared, handle, Of::Request(number)))
+    ) -> Result<NlRouterReceiverHandle<RT, RP>, RouterError> {
+        self.send_all([(nl_type, nl_flags, nl_payload)])?.pop().ok_or(RouterError::ClosedChannel)
     }
 
     /// Sends requests as one datagram, in their order, and returns the handle of each: the kernel performs the first,
@@ -185,27 +200,16 @@ impl<L: Link + 'static> NlRouter<L> {
     ///
     /// A refusal sends none of them. One of them at most may be a dump, since the kernel runs one at a time; two are
     /// refused as `Msg`. Else it is refused as [`send`](NlRouter::send) is.
-    pub fn send_all<ST, SP, RT, RP>(
+    pub fn send_all<ST: NlType, SP: ToBytes, RT, RP>(
         &self,
         requests: impl IntoIterator<Item = (ST, NlmF, NlPayload<ST, SP>)>,
-    ) -> Result<Vec<NlRouterReceiverHandle<RT, RP>>, RouterError>
-    where
-        ST: NlType,
-        SP: ToBytes,
-    {
+    ) -> Result<Vec<NlRouterReceiverHandle<RT, RP>>, RouterError> {
         let mut written = Vec::new();
         for (nl_type, nl_flags, nl_payload) in requests {
             written.push((nl_type.into(), nl_flags, nl_payload.body()?));
         }
-        let family = self.link.family();
-        let is_dump =
-            |(kind, flags, body): &&(u16, NlmF, Vec<u8>)| Answering::of(family, *kind, *flags, body.len()).is_dump();
-        if written.iter().filter(is_dump).count() > 1 {
-            return Err(RouterError::new("two dumps in one datagram"));
-        }
-        let sent = self.shared.send_all(&written)?;
-        let of_each = |(number, handle)| NlRouterReceiverHandle::new(&self.shared, handle, Of::Request(number));
-        Ok(sent.into_iter().map(of_each).collect())
+        let readers = self.shared.send(&written)?;
+        Ok(readers.into_iter().map(|it| NlRouterReceiverHandle::new(&self.shared, it)).collect())
     }
 
     /// Requests a list, and repeats this, as a new request, while the kernel marks it as interrupted or is busy with
@@ -213,26 +217,19 @@ impl<L: Link + 'static> NlRouter<L> {
     /// verdict on it. These flags are added to `DUMP`.
     ///
     /// Refused if nothing can be sent, and if the wait ends or memory runs out before the list has ended.
-    pub fn dump<ST, SP, RT, RP>(
+    pub fn dump<ST: NlType, SP: ToBytes, RT: NlType, RP: FromBytes>(
         &self,
         nl_type: ST,
         nl_flags: NlmF,
         nl_payload: NlPayload<ST, SP>,
         times: usize,
-    ) -> Result<Dump<RT, RP>, RouterError>
-    where
-        ST: NlType,
-        SP: ToBytes,
-        RT: NlType,
-        RP: FromBytes,
-    {
+    ) -> Result<Dump<RT, RP>, RouterError> {
         let (kind, body) = (nl_type.into(), nl_payload.body()?);
         let mut dump = dump_once(&self.shared, kind, nl_flags, &body)?;
-        for _ in 1..times {
-            if !dump.is_passing() {
-                break;
-            }
+        let mut left = times.max(1) - 1;
+        while left > 0 && dump.is_passing() {
             dump = dump_once(&self.shared, kind, nl_flags, &body)?;
+            left -= 1;
         }
         Ok(dump)
     }
@@ -242,74 +239,82 @@ impl<L: Link + 'static> NlRouter<L> {
     /// handle has them.
     pub fn unasked(&self) -> Result<NlRouterReceiverHandle<u16, Buffer>, RouterError> {
         if self.shared.state().keep_unasked() {
-            Ok(NlRouterReceiverHandle::new(&self.shared, UNASKED, Of::Unasked))
+            Ok(NlRouterReceiverHandle::new(&self.shared, Reader::Unasked))
         } else {
             Err(RouterError::ClosedChannel)
         }
     }
 }
 
-/// The messages that a handle reads.
-#[derive(Clone, Copy, Debug, PartialEq, Eq)]
-enum Of {
-    Groups,
-    Unasked,
-    Request(u32),
-}
+/// A message as these types, or an error in its place.
+type Reply<T, P> = Result<Nlmsghdr<T, P>, RouterError>;
 
 /// The handle of the replies to one request, of multicast, or of messages without a request. As an iterator it returns
 /// the replies up to the last, by [`next_typed`](NlRouterReceiverHandle::next_typed); each step waits.
 ///
-/// It may be dropped at any time. Messages that still arrive for its request are then dropped.
+/// It may be dropped at any time. Messages that still arrive for its request are then dropped; its number, and some
+/// hundred bytes, are in use until its answer has ended, or a read or [`NlRouter::receive`] sees the link empty.
 #[derive(Debug)]
 pub struct NlRouterReceiverHandle<T, P> {
     shared: Arc<Shared>,
-    handle: usize,
-    whose: Of,
-    /// Wakes the thread that waits at this handle.
-    bell: Arc<Condvar>,
+    reader: Reader,
     is_stopped: bool,
+    is_filtered: bool,
     /// The verdict, once a message could not be read as the caller's types, which the library does not see.
     spoilt: Option<Verdict>,
     of: PhantomData<fn() -> (T, P)>,
 }
 
 impl<T, P> NlRouterReceiverHandle<T, P> {
-    fn new(shared: &Arc<Shared>, handle: usize, whose: Of) -> Self {
-        let (shared, bell) = (Arc::clone(shared), Arc::new(Condvar::new()));
-        NlRouterReceiverHandle { shared, handle, whose, bell, is_stopped: false, spoilt: None, of: PhantomData }
+    fn new(shared: &Arc<Shared>, reader: Reader) -> Self {
+        let shared = Arc::clone(shared);
+        NlRouterReceiverHandle { shared, reader, is_stopped: false, is_filtered: false, spoilt: None, of: PhantomData }
     }
 
     /// The next reply, read as these types; none after the last. A request that the kernel refuses is an error, a
     /// [`RouterError::Nlmsgerr`]. Multicast has no last message.
     ///
     /// Other errors in a reply's place are [`RouterError::Socket`] if something was lost, [`RouterError::De`] if it
-    /// can't be read, [`RouterError::NoAck`] and [`RouterError::UnexpectedAck`]. Refused also as
-    /// [`RouterError::Socket`] if the wait has ended, and as [`RouterError::Memory`] if memory runs out; then no reply
-    /// is lost.
-    pub fn next_typed<TT: NlType, PP: FromBytes>(&mut self) -> Option<Result<Nlmsghdr<TT, PP>, RouterError>> {
+    /// can't be read. Refused also as [`RouterError::Socket`] if the wait has ended, and as [`RouterError::Memory`] if
+    /// memory runs out; then no reply is lost.
+    ///
+    /// The kernel answers while a request is sent. So once the socket was seen empty no reply follows, and the verdict
+    /// says whether that is an end: a change without ACK is answered by nothing.
+    pub fn next_typed<TT: NlType, PP: FromBytes>(&mut self) -> Option<Reply<TT, PP>> {
         if self.is_stopped {
             return None;
         }
-        let bytes = match self.shared.next(self.handle, &self.bell) {
-            Ok(Some(bytes)) => bytes,
-            Ok(None) => return None,
-            Err(error) => {
-                self.is_stopped = matches!(&error, RouterError::Socket(it) if is_stop(it));
-                return Some(Err(error));
+        let next = self.shared.next(self.reader, State::read);
+        self.is_stopped = matches!(&next, Err(RouterError::Socket(it)) if is_stop(it));
+        next.transpose().map(|it| self.typed(it))
+    }
+
+    /// The next reply, if it has been taken in; it neither receives nor waits. Otherwise as
+    /// [`next_typed`](NlRouterReceiverHandle::next_typed). For a loop of your own, after [`NlRouter::receive`].
+    pub fn try_next(&mut self) -> Poll<Option<Reply<T, P>>>
+    where
+        T: NlType,
+        P: FromBytes,
+    {
+        let next = if self.is_stopped { Some(Ok(None)) } else { self.shared.state().read(self.reader) };
+        next.map_or(Poll::Pending, |it| Poll::Ready(it.transpose().map(|it| self.typed(it))))
+    }
+
+    /// What was read, as these types.
+    fn typed<TT: NlType, PP: FromBytes>(&mut self, read: Result<Owned, RouterError>) -> Reply<TT, PP> {
+        let (head, payload) = read?;
+        let is_answer = matches!(self.reader, Reader::Request(_));
+        self.is_filtered |= is_answer && NlmF::from_bits_retain(head.flags).contains(NlmF::DUMP_FILTERED);
+        match Nlmsghdr::of_message(&payload, &head) {
+            Ok(message) if is_answer && message.get_err().is_some() => {
+                message.into_err().map_or(Err(RouterError::ClosedChannel), |it| Err(RouterError::Nlmsgerr(it)))
             }
-        };
-        let message = match Nlmsghdr::of_bytes(&bytes) {
-            Ok(message) => message,
+            Ok(message) => Ok(message),
             Err(error) => {
                 self.spoilt = Some(self.verdict().unreadable());
-                return Some(Err(error.into()));
+                Err(error.into())
             }
-        };
-        if !matches!(self.whose, Of::Request(_)) || message.get_err().is_none() {
-            return Some(Ok(message));
         }
-        message.into_err().map(|answer| Err(RouterError::Nlmsgerr(answer)))
     }
 
     /// The next notice from multicast, read as these types: a message that can't be read as them is returned as it
@@ -317,13 +322,13 @@ impl<T, P> NlRouterReceiverHandle<T, P> {
     ///
     /// Refused if the wait has ended or memory runs out, and as `ClosedChannel` if the handle is not that of multicast.
     pub fn listen<TT: NlType, PP: FromBytes>(&mut self) -> Result<Notice<TT, PP>, RouterError> {
-        if self.whose != Of::Groups {
+        if self.reader != Reader::Multicast {
             return Err(RouterError::ClosedChannel);
         }
-        match self.shared.next(self.handle, &self.bell) {
-            Ok(Some(bytes)) => Ok(match Nlmsghdr::of_bytes(&bytes) {
+        match self.shared.next(self.reader, State::read) {
+            Ok(Some((head, payload))) => Ok(match Nlmsghdr::of_message(&payload, &head) {
                 Ok(message) => Notice::Message(message),
-                Err(_) => Notice::Untyped(Nlmsghdr::of_bytes(&bytes).map_err(RouterError::De)),
+                Err(_) => Notice::Untyped(Nlmsghdr::of_message(&payload, &head).map_err(RouterError::De)),
             }),
             Ok(None) => Err(RouterError::ClosedChannel),
             Err(RouterError::De(error)) => Ok(Notice::Untyped(Err(error.into()))),
@@ -339,16 +344,16 @@ impl<T, P> NlRouterReceiverHandle<T, P> {
     ///
     /// To call this after a loop, lend the iterator to the loop: `for reply in &mut replies`.
     pub fn verdict(&self) -> Verdict {
-        match self.whose {
-            Of::Request(_) => self.spoilt.unwrap_or_else(|| self.shared.state().verdict(self.handle).0),
-            Of::Groups | Of::Unasked => Verdict::Pending,
+        match self.reader {
+            Reader::Request(_) => self.spoilt.unwrap_or_else(|| self.shared.state().verdict(self.reader)),
+            Reader::Multicast | Reader::Unasked => Verdict::Pending,
         }
     }
 
     /// Whether a returned message states that the kernel filtered as requested, by the flag `NLM_F_DUMP_FILTERED`. A
     /// kernel that cannot filter lists everything.
     pub fn is_filtered(&self) -> bool {
-        matches!(self.whose, Of::Request(_)) && self.shared.state().verdict(self.handle).1
+        self.is_filtered
     }
 
     /// Requests the whole state after a loss of multicast: returns the messages of a complete dump. Messages for groups
@@ -358,24 +363,18 @@ impl<T, P> NlRouterReceiverHandle<T, P> {
     /// The dump is repeated as by [`NlRouter::dump`], at most so many times; then the last error is returned. Refused
     /// as `ClosedChannel` if the handle is not that of multicast, as `Socket` if the link is gone, and else as
     /// [`NlRouter::dump`] is.
-    pub fn resync<ST, SP, RT, RP>(
+    pub fn resync<ST: NlType, SP: ToBytes, RT: NlType, RP: FromBytes>(
         &mut self,
         nl_type: ST,
         nl_payload: NlPayload<ST, SP>,
         times: usize,
-    ) -> Result<Vec<Nlmsghdr<RT, RP>>, RouterError>
-    where
-        ST: NlType,
-        SP: ToBytes,
-        RT: NlType,
-        RP: FromBytes,
-    {
-        if self.whose != Of::Groups {
+    ) -> Result<Vec<Nlmsghdr<RT, RP>>, RouterError> {
+        if self.reader != Reader::Multicast {
             return Err(RouterError::ClosedChannel);
         }
         let (kind, body) = (nl_type.into(), nl_payload.body()?);
         for left in (0..times.max(1)).rev() {
-            self.shared.drop_multicast()?;
+            self.shared.receive_all(|state| state.pass_all(Reader::Multicast))?;
             let dump = dump_once(&self.shared, kind, NlmF::empty(), &body)?;
             if dump.verdict == Verdict::Complete {
                 return Ok(dump.messages);
@@ -390,17 +389,22 @@ impl<T, P> NlRouterReceiverHandle<T, P> {
 
 /// Requests a dump once, and reads it to its end. Refused if the wait ends or memory runs out, since it has not ended
 /// then.
-fn dump_once<RT, RP>(shared: &Arc<Shared>, kind: u16, flags: NlmF, body: &[u8]) -> Result<Dump<RT, RP>, RouterError>
-where
-    RT: NlType,
-    RP: FromBytes,
-{
-    let (number, handle) = shared.send(kind, flags | NlmF::DUMP, body)?;
-    let mut replies = NlRouterReceiverHandle::<RT, RP>::new(shared, handle, Of::Request(number));
-    let (mut messages, mut first_error) = (Vec::new(), None);
+fn dump_once<RT: NlType, RP: FromBytes>(
+    shared: &Arc<Shared>,
+    kind: u16,
+    flags: NlmF,
+    body: &[u8],
+) -> Result<Dump<RT, RP>, RouterError> {
+    let sent = shared.send(&[(kind, flags | NlmF::DUMP, body.to_vec())])?;
+    let [reader] = sent[..] else { return Err(RouterError::ClosedChannel) };
+    let mut replies = NlRouterReceiverHandle::<RT, RP>::new(shared, reader);
+    let (mut messages, mut first_error, mut has_end) = (Vec::new(), None, false);
     for reply in &mut replies {
         let error = match reply {
-            Ok(message) if message.is_done() => message.failed_end().map(RouterError::Nlmsgerr),
+            Ok(message) if message.is_done() => {
+                has_end = true;
+                message.failed_end().map(RouterError::Nlmsgerr)
+            }
             Ok(message) => {
                 messages.push(message);
                 None
@@ -410,8 +414,12 @@ where
         };
         first_error = first_error.or(error);
     }
-    let (verdict, is_filtered) = (replies.verdict(), replies.is_filtered());
-    Ok(Dump { messages, verdict, is_filtered, error: first_error })
+    // A request that the kernel answers by nothing, as one without its header, is no empty list.
+    let verdict = match replies.verdict() {
+        Verdict::Complete if !has_end => Verdict::Lost(Loss::Unended),
+        verdict => verdict,
+    };
+    Ok(Dump { messages, verdict, is_filtered: replies.is_filtered(), error: first_error })
 }
 
 /// Whether an answer may go on after this error.
@@ -423,7 +431,7 @@ fn is_unended(error: &RouterError) -> bool {
 }
 
 impl<T: NlType, P: FromBytes> Iterator for NlRouterReceiverHandle<T, P> {
-    type Item = Result<Nlmsghdr<T, P>, RouterError>;
+    type Item = Reply<T, P>;
 
     fn next(&mut self) -> Option<Self::Item> {
         self.next_typed::<T, P>()
@@ -432,11 +440,6 @@ impl<T: NlType, P: FromBytes> Iterator for NlRouterReceiverHandle<T, P> {
 
 impl<T, P> Drop for NlRouterReceiverHandle<T, P> {
     fn drop(&mut self) {
-        let mut state = self.shared.state();
-        match self.whose {
-            Of::Groups => state.close(MULTICAST),
-            Of::Unasked => state.drop_unasked(),
-            Of::Request(number) => state.give_up(number),
-        }
+        self.shared.state().close(self.reader);
     }
 }

@@ -24,9 +24,12 @@ pub enum Verdict {
 }
 
 /// What ended an answer before its end.
+///
+/// The routers of this crate give no `Stray`, `NoAck` or `UnexpectedAck`: what no request has is set aside, and an answer
+/// ends as the kernel ends it.
 #[derive(Clone, Copy, Debug, PartialEq, Eq)]
 pub enum Loss {
-    /// The socket failed, as where its buffer ran over.
+    /// The socket failed, as where its buffer ran over, or did not send the request.
     Link,
     /// A datagram could not be read to its end.
     Datagram,
@@ -38,7 +41,7 @@ pub enum Loss {
     NoAck,
     /// An acknowledgement arrived that was not requested.
     UnexpectedAck,
-    /// The reads ended before the kernel's answer did: a message of a dump came without `NLM_F_MULTI`.
+    /// The link was seen empty before its end: nothing more comes.
     Unended,
     /// The handle is not open.
     Closed,
@@ -53,9 +56,6 @@ impl Verdict {
             ffi::INTERRUPTED => Verdict::Interrupted,
             ffi::KERNEL_ERROR => Verdict::Failed(error),
             ffi::LINK => Verdict::Lost(Loss::Link),
-            ffi::STRAY => Verdict::Lost(Loss::Stray),
-            ffi::NO_ACK => Verdict::Lost(Loss::NoAck),
-            ffi::UNEXPECTED_ACK => Verdict::Lost(Loss::UnexpectedAck),
             ffi::UNENDED => Verdict::Lost(Loss::Unended),
             ffi::HANDLE => Verdict::Lost(Loss::Closed),
             _ => Verdict::Lost(Loss::Datagram),
@@ -94,7 +94,11 @@ impl<T, P> Dump<T, P> {
 
     /// Why it is incomplete.
     pub(super) fn into_error(self) -> RouterError {
-        self.error.unwrap_or_else(|| RouterError::new("what was listed changed meanwhile"))
+        let why = match self.verdict {
+            Verdict::Interrupted => "what was listed changed meanwhile",
+            _ => "the list has no end",
+        };
+        self.error.unwrap_or_else(|| RouterError::new(why))
     }
 }
 

@@ -4,6 +4,7 @@ mod dumps;
 mod lent;
 mod links;
 mod neighbours;
+mod polled;
 mod space;
 mod together;
 mod trouble;
@@ -20,7 +21,7 @@ use neli::err::{RouterError, SocketError};
 use neli::nl::{NlPayload, NlmsghdrBuilder};
 use neli::recording::{Recorder, Recording};
 use neli::router::lending::LendingRouter;
-use neli::router::synchronous::{NlRouter, NlRouterReceiverHandle, Notice};
+use neli::router::synchronous::{NlRouter, NlRouterReceiverHandle, Notice, Verdict};
 use neli::rtnl::{Ifinfomsg, RtattrBuilder};
 use neli::socket::synchronous::NlSocketHandle;
 use neli::types::Buffer;
@@ -247,7 +248,7 @@ fn what_another_process_sends_is_passed_over() {
         let other = NlSocketHandle::connect(NlFamily::Route, None, Groups::empty()).expect("a socket connects");
         let (router, mut multicast) = router(&[LINK_GROUP]);
         router.socket().set_recv_timeout(Some(Duration::from_millis(200))).expect("a time is set");
-        // A request without ACK, which is not answered, so that its number stays open.
+        // A request without ACK, which is not answered: it is open until the socket was seen empty.
         let body = NlPayload::Payload(link(1).up().build().expect("a link"));
         let mut open = router.send::<_, _, Rtm, Buffer>(Rtm::Setlink, NlmF::empty(), body).expect("it is sent");
         let forged = NlmsghdrBuilder::default()
@@ -257,8 +258,9 @@ fn what_another_process_sends_is_passed_over() {
         let mut bytes = Vec::new();
         forged.build().expect("a message").to_bytes(&mut bytes).expect("is written");
         other.send_bytes_to(&bytes, router.pid()).expect("it is sent to the router's port");
-        let nothing = open.next().expect("the request is open").expect_err("nothing comes");
-        assert!(matches!(nothing, RouterError::Socket(SocketError::Io(it)) if it.kind() == ErrorKind::WouldBlock));
+        assert_eq!(open.verdict(), Verdict::Pending);
+        assert!(open.next().is_none(), "nothing comes");
+        assert_eq!(open.verdict(), Verdict::Complete);
         assert!(multicast.next().is_some_and(|it| it.is_ok()), "the link's change comes all the same");
     });
 }

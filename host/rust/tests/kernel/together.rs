@@ -1,12 +1,14 @@
 //! Several requests in one datagram.
 
-use crate::links::{Links, link, name, names, router};
+use crate::links::{LINK_GROUP, Links, dump, link, make_pairs, name, names, router, set_loopback};
 use crate::space::alone;
 use neli::consts::nl::NlmF;
 use neli::consts::rtnl::Rtm;
 use neli::err::RouterError;
 use neli::nl::NlPayload;
+use neli::router::synchronous::{NlRouter, Verdict};
 use neli::rtnl::Ifinfomsg;
+use std::{env, thread};
 
 type Request = (Rtm, NlmF, NlPayload<Rtm, Ifinfomsg>);
 
@@ -63,5 +65,72 @@ fn a_refusal_sends_none_of_a_datagram() {
         assert!(matches!(in_use, Err(RouterError::SeqInUse)));
         let next: Links = router.send_all([question(4711)]).expect("it is sent").remove(0);
         assert_eq!((answer(next), answer(open)), (Err(NO_DEVICE), Ok("lo".into())));
+    });
+}
+
+/// The number of messages in an answer, which is complete.
+fn whole(mut replies: Links) -> usize {
+    let messages: Result<Vec<_>, _> = replies.by_ref().collect();
+    assert_eq!(replies.verdict(), Verdict::Complete);
+    messages.expect("no reply is an error").len()
+}
+
+/// Sends two dumps, three gets and a batch from one socket, without a pause, and reads them in another order.
+fn burst(router: &NlRouter, links: usize, at: usize) {
+    let get = |index| -> Links {
+        let (kind, flags, body) = question(index);
+        router.send(kind, flags, body).expect("it is sent")
+    };
+    let (first, one, second, two) = (dump(router), get(1), dump(router), get(4711));
+    let batch = [question(1), question(4711), question(1)];
+    let batch: Vec<Links> = router.send_all(batch).expect("it is sent");
+    let three = get(1);
+    // A get has a link and the acknowledgement, a dump all links and the end.
+    let read_dumps = |dumps: [Links; 2]| dumps.into_iter().for_each(|it| assert_eq!(whole(it), links + 1));
+    let read_gets = |gets: [Links; 2]| gets.into_iter().for_each(|it| assert_eq!(whole(it), 2));
+    let [begin, middle, end] = <[Links; 3]>::try_from(batch).expect("each has a handle");
+    if at % 2 == 0 {
+        read_dumps([second, first]);
+        read_gets([end, begin]);
+        read_gets([three, one]);
+    } else {
+        read_gets([one, three]);
+        read_gets([begin, end]);
+        read_dumps([first, second]);
+    }
+    for mut refused in [middle, two] {
+        assert_eq!(refused.next().and_then(|it| it.err()?.errno()), NO_DEVICE);
+        assert!(refused.next().is_none() && refused.verdict() == Verdict::Failed(-19));
+    }
+}
+
+/// So often as NELI_BURSTS says, by default 200 times.
+#[test]
+fn dumps_gets_and_a_batch_are_sent_without_a_pause() {
+    alone(|| {
+        let links = make_pairs(60);
+        let (router, _) = router(&[]);
+        let times = env::var("NELI_BURSTS").ok().and_then(|it| it.parse().ok()).unwrap_or(200);
+        (0..times).for_each(|at| burst(&router, links, at));
+    });
+}
+
+/// Four threads do so over one socket, while one listens.
+#[test]
+fn dumps_of_threads_take_turns() {
+    alone(|| {
+        let links = make_pairs(60);
+        let (router, mut multicast) = router(&[LINK_GROUP]);
+        let listener = thread::spawn(move || multicast.by_ref().filter(Result::is_ok).count());
+        let senders: Vec<_> = (0..4)
+            .map(|at| {
+                let router = router.clone();
+                thread::spawn(move || (0..50).for_each(|more| burst(&router, links, at + more)))
+            })
+            .collect();
+        (0..50).for_each(|at| set_loopback(&router, at % 2 == 0));
+        senders.into_iter().for_each(|it| it.join().expect("a thread ends"));
+        router.stop();
+        assert!(listener.join().expect("the thread ends") >= 50);
     });
 }

@@ -7,7 +7,7 @@ use neli::consts::nl::{NlmF, Nlmsg};
 use neli::consts::rtnl::{Ifa, Ifla, RtAddrFamily, RtScope, Rtm};
 use neli::err::{RouterError, SocketError};
 use neli::nl::{NlPayload, NlmsghdrBuilder};
-use neli::router::synchronous::{NlRouter, NlRouterReceiverHandle};
+use neli::router::synchronous::{NlRouter, NlRouterReceiverHandle, Verdict};
 use neli::rtnl::{Ifaddrmsg, IfaddrmsgBuilder, Ifinfomsg, RtattrBuilder};
 use neli::types::Buffer;
 use std::collections::BTreeMap;
@@ -30,7 +30,7 @@ fn asked(router: &NlRouter, index: i32) -> Links {
     router.send(Rtm::Getlink, NlmF::ACK, body).expect("a link is asked for")
 }
 
-/// A request that is never answered: a change without ACK.
+/// A request that is answered by nothing: a change without ACK.
 fn unanswered(router: &NlRouter) -> Links {
     let body = NlPayload::Payload(link(1).up().build().expect("a link"));
     router.send(Rtm::Setlink, NlmF::empty(), body).expect("a change is asked for")
@@ -327,17 +327,16 @@ fn each_wait_has_its_end() {
                 }
             }
         });
-        let waiters: Vec<_> = (0..5)
-            .map(|_| {
-                let mut handle = unanswered(&router);
-                thread::spawn(move || {
-                    let start = Instant::now();
-                    let late = handle.next().is_some_and(|it| it.is_err_and(|it| is_late(&it)));
-                    (late, start.elapsed())
-                })
-            })
-            .collect();
-        for waiter in waiters {
+        for _ in 0..5 {
+            let mut unasked = router.unasked().expect("nobody else has it");
+            let waiter = thread::spawn(move || {
+                let start = Instant::now();
+                let late = unasked.next().is_some_and(|it| it.is_err_and(|it| is_late(&it)));
+                (late, start.elapsed())
+            });
+            // What is answered by nothing has its end at once.
+            let mut change = unanswered(&router);
+            assert!(change.next().is_none() && change.verdict() == Verdict::Complete);
             let (is_late, waited) = waiter.join().expect("a thread ends");
             assert!(is_late && waited >= SHORT && waited < SHORT * 5, "{waited:?}");
         }
@@ -368,11 +367,15 @@ fn who_waits_at_the_socket_is_given_what_another_receives() {
 #[test]
 fn threads_that_wait_cost_a_request_nothing() {
     alone(|| {
-        let (router, _) = router(&[]);
-        let parked: Vec<_> = (0..400)
-            .map(|_| {
-                let mut handle = unanswered(&router);
-                thread::spawn(move || handle.next().map(|it| it.is_err_and(|it| number(&it) == Some(ECANCELED))))
+        let (router, multicast) = router(&[]);
+        let unasked = router.unasked().expect("nobody else has it");
+        let parked: Vec<_> = [multicast, unasked]
+            .into_iter()
+            .map(|mut handle| {
+                thread::spawn(move || {
+                    let is_stopped = handle.next().is_some_and(|it| it.is_err_and(|it| number(&it) == Some(ECANCELED)));
+                    is_stopped && handle.next().is_none()
+                })
             })
             .collect();
         thread::sleep(Duration::from_millis(300));
@@ -383,12 +386,11 @@ fn threads_that_wait_cost_a_request_nothing() {
         let each = start.elapsed() / 200;
         assert!(each < Duration::from_millis(5), "{each:?}");
         router.stop();
-        assert!(parked.into_iter().all(|it| it.join().expect("a thread ends") == Some(true)));
-        let mut last = asked(&router, 1);
-        assert!(last.next().is_some_and(|it| it.is_ok()), "what is there can be read");
-        let mut open = unanswered(&router);
-        assert!(open.next().is_some_and(|it| it.is_err_and(|it| number(&it) == Some(ECANCELED))));
-        assert!(open.next().is_none(), "after that it ends");
+        assert!(parked.into_iter().all(|it| it.join().expect("a thread ends")));
+        assert_eq!(names(asked(&router, 1)), ["lo"], "what is there can be read");
+        let mut unasked = router.unasked().expect("its handle was dropped");
+        assert!(unasked.next().is_some_and(|it| it.is_err_and(|it| number(&it) == Some(ECANCELED))));
+        assert!(unasked.next().is_none(), "after that it ends");
     });
 }
 

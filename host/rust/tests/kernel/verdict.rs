@@ -135,6 +135,19 @@ fn a_dump_fails_at_its_end() {
     });
 }
 
+/// Linux does not answer a dump of routing without its header (rtnetlink_rcv_msg), and that is no empty list.
+#[test]
+fn a_dump_that_is_not_answered_is_not_complete() {
+    alone(|| {
+        let (router, mut multicast) = router(&[]);
+        let nothing = || NlPayload::<_, Buffer>::Empty;
+        let all: Dump<Rtm, Ifinfomsg> = router.dump(Rtm::Getlink, NlmF::empty(), nothing(), 3).expect("it is sent");
+        assert_eq!((all.verdict, all.messages.len()), (Verdict::Lost(Loss::Unended), 0));
+        let error = multicast.resync::<_, _, Rtm, Ifinfomsg>(Rtm::Getlink, nothing(), 3).expect_err("there is no list");
+        assert_eq!(error.to_string(), "the list has no end");
+    });
+}
+
 /// A request that is no dump.
 fn asked<P>(router: &NlRouter, index: i32) -> NlRouterReceiverHandle<Rtm, P> {
     let body = NlPayload::Payload(link(index).build().expect("a link"));
