@@ -172,6 +172,11 @@ def try_page(at):
     assert "attribute 3 of 3 bytes" in lines, lines
 
 
+def try_own_host(at):
+    """The example of docs/C.md without neli_host.h."""
+    assert well(f"{at}/own_host") == "lo\n"
+
+
 def try_readme(at):
     """The example of the README in C."""
     assert well(f"{at}/readme") == "lo\n"
@@ -470,6 +475,7 @@ INSIDE = {
     "record": try_record,
     "monitor": try_monitor,
     "replay": try_replay,
+    "own_host": try_own_host,
     "page": try_page,
     "readme": try_readme,
     "storm": try_storm,

@@ -73,7 +73,7 @@ def print_by_python(path):
 def shared_library(neli_c, rattle_c):
     """Builds the library as Python loads it, and gives its path."""
     path = f"{OUT}/libneli.so"
-    sources = [f"{HERE}/c/{it}.c" for it in ("neli_host", "host", "link", "ledger")]
+    sources = [f"{HERE}/c/{it}.c" for it in ("neli_host", "host", "link")]
     words = ["-O2", "-fPIC", "-shared", f"-I{TOP}/include", f"-I{HERE}/c", "-o", path, *sources,
              f"{HERE}/release/version.c", "-Wl,--whole-archive", f"{neli_c}/libneli_c.a", f"{rattle_c}/liblibc_c.a",
              "-Wl,--no-whole-archive", f"-Wl,--version-script={HERE}/release/neli.map"]

@@ -1,8 +1,8 @@
-/* Sockets for neli.h: a netlink socket of the kernel with a router over it, for C and C++.
+/* Sockets for neli.h: a netlink socket of the kernel with a session over it, for C and C++.
  *
- * The library that neli.h declares is proved: how messages are read and written, and which reply goes to which request.
- * The calls of this header are plain C around it, and are tested on a live kernel: they receive, send, wait, and pass
- * in the datagrams that arrive, whole, once and in order.
+ * The library that neli.h declares is proved: how messages are read and written, which request goes out next, who gets
+ * what comes, and where an answer ends. The calls of this header are plain C around it, and are tested on a live
+ * kernel: they receive, send, wait, and hand in the datagrams that arrive, whole, once and in order.
  *
  * Calls return a code of neli.h. NELI_LINK means that the socket failed: `neli_host_fault` then returns the number in
  * errno.h. EAGAIN, EINTR and ECANCELED only mean that the caller's wait has ended, not that the socket failed. One that
@@ -21,7 +21,7 @@
 extern "C" {
 #endif
 
-/* A socket and its router, private to the library. */
+/* A socket and its session, private to the library. */
 struct neli_host;
 
 /* The handle for messages that the kernel sends to the socket's own port without a request, as the packets of a
@@ -30,11 +30,40 @@ struct neli_host;
 
 /* ---- Opening and closing ---- */
 
-/* Opens a socket of a netlink family, as NETLINK_ROUTE, in these multicast groups, and a router over it. `groups` may
+/* Opens a socket of a netlink family, as NETLINK_ROUTE, in these multicast groups, and a session over it. `groups` may
  * be null if `count` is 0. NELI_LINK if the system refuses the socket or a group; NELI_MEMORY if memory runs out. Even
  * after a refusal `neli_host_close` frees what `host` points to, and `neli_host_explain` reports the cause; it may
  * point to null if memory ran out. */
 int32_t neli_host_open(struct neli_host **host, int family, const uint32_t *groups, size_t count);
+
+/* A datagram that was received: its length as it was sent, the group for which it arrived, or 0, and whether the
+ * receiver is in that group: an own change's copy comes in the group's name also where it is not. */
+struct neli_received {
+    size_t length;
+    uint32_t group;
+    bool is_joined;
+};
+
+/* What a host may stand on in place of a socket: a simulator, a recording, a tunnel. Each call is given `state`, and
+ * returns 0 or a number of errno.h, a fault as that of a socket. */
+struct neli_transport {
+    void *state;
+    /* Sends a datagram. EAGAIN if that would block: it is sent again later. */
+    int (*send)(void *state, const uint8_t *bytes, size_t length);
+    /* Receives the next datagram, of which it writes as much as there is room for. EAGAIN if none is left, and nothing
+     * more comes for what was sent before, as from the kernel; EINPROGRESS if none is there yet, but answers may come,
+     * as over a tunnel. */
+    int (*receive)(void *state, uint8_t *out, size_t room, struct neli_received *received);
+    /* Waits for so many milliseconds, or without end if below 0, until one may have arrived, or one that would have
+     * blocked may be sent. EAGAIN if the time has passed. Where no more will come, another number, which ends the
+     * read. */
+    int (*wait)(void *state, int milliseconds);
+};
+
+/* The same over functions of the caller's, for a netlink family and the port that answers have. They are called within
+ * the calls of this host alone, until it is closed. `neli_host_fd` is then -1, and `neli_host_stop` ends a wait once
+ * `wait` returns. NELI_NULL also if a function is null. */
+int32_t neli_host_open_over(struct neli_host **host, int family, uint32_t port, const struct neli_transport *over);
 
 /* Closes both, and frees the host. Does nothing to null. */
 void neli_host_close(struct neli_host *host);
@@ -68,10 +97,12 @@ void neli_host_stop(const struct neli_host *host);
 
 /* ---- Requests ---- */
 
-/* Sends a request of any length, whose replies are read by `handle`. A dump is sent when the one before has ended, and
- * its answer waits at its handle. `body` may be null if `length` is 0. It returns what neli_router_send does, but never
- * NELI_ROOM; NELI_IN_USE also if the number's answer may still arrive, though it is closed; and NELI_LINK if the system
- * refuses to send it. */
+/* Sends a request of this type with these flags and NLM_F_REQUEST, whose payload is the body, of any length, and whose
+ * answer is read by `handle`: its sequence number and one. `body` may be null if `length` is 0. It never waits, and
+ * takes nothing in. A dump waits for its turn, until the one before has ended, and after a loss by ENOBUFS every
+ * request waits until the socket was seen empty; what waits goes out from later calls that read. NELI_LINK if the
+ * system refuses to send it now: then it is closed; where it is refused later, its read returns that. NELI_LENGTH if
+ * its length exceeds 32 bits; NELI_IN_USE if no sequence number is free. */
 int32_t neli_host_send(struct neli_host *host, uint16_t type, uint16_t flags, const void *body, size_t length,
                        size_t *handle);
 
@@ -83,36 +114,51 @@ struct neli_host_request {
 };
 
 /* Sends requests as one datagram, in their order: the kernel performs the first, answers it, and goes on with the next.
- * The replies to each are read by its handle; `handles` has room for as many. A refusal sends none of them. A list of
- * requests has at most one dump, since the kernel runs one at a time: NELI_KIND if it has two. Else it returns what
- * `neli_host_send` does. */
+ * The answer to each is read by its handle; `handles` has room for as many. A refusal sends none of them. A list of
+ * requests has at most one dump, since the kernel runs one at a time: NELI_KIND if it has two. With a dump all wait for
+ * its turn. Else it returns what `neli_host_send` does. */
 int32_t neli_host_send_all(struct neli_host *host, const struct neli_host_request *requests, size_t count,
                            size_t *handles);
 
-/* Reads the next item of a handle, and may wait for datagrams. It returns what neli_router_read does, and for
- * NELI_MULTICAST what neli_router_listen does, but neither NELI_WAITS nor NELI_OVERRUN; and NELI_LINK if the wait has
- * ended. At NELI_ITEM and NELI_KERNEL_ERROR `message` is the header of the bytes at `neli_host_item`. Otherwise
- * NELI_LINK for NELI_MULTICAST and for NELI_HOST_UNASKED means that messages were lost at this place; `neli_host_fault`
- * is then ENOBUFS if the socket's buffer ran over. NELI_SHORT, NELI_LENGTH and NELI_BYTES for NELI_MULTICAST mean that
- * a message cannot be read; more items follow. At NELI_MEMORY nothing is lost, if the next item that is read is this
- * handle's. */
+/* Reads the next item of a handle, and may wait for datagrams.
+ *   NELI_ITEM           a message, the header of the bytes at `neli_host_item`
+ *   NELI_KERNEL_ERROR   of a request: the kernel's error, which is such a message too, and ends the answer
+ *   NELI_END            of a request: its answer has ended, or the socket was seen empty, so that nothing more comes
+ *   NELI_LINK           something was lost here, by the fault of the socket that `neli_host_fault` returns, as ENOBUFS
+ *                       if its buffer ran over; it ends an answer, and more follows for the two other handles. Or the
+ *                       request was not sent. Or the wait has ended
+ *   NELI_SHORT          something was lost here: a datagram that cannot be read to its end
+ *   NELI_HANDLE         the handle is not open
+ *   NELI_MEMORY         nothing is lost; the item stays the next one */
 int32_t neli_host_next(struct neli_host *host, size_t handle, struct neli_message *message);
 
-/* Lends the next item of a handle where the router keeps it, as neli_router_lend does, and may wait for datagrams. It
- * returns what `neli_host_next` does, but copies no byte, takes no memory for the item, and leaves it the next one:
- * `lent` with its bytes stays until the next call of this host. An error message for NELI_MULTICAST is an item. A loss
- * for NELI_MULTICAST counts as read when it is returned. NELI_HANDLE for NELI_HOST_UNASKED; NELI_MEMORY while
- * `neli_host_next` has an item of this handle for which memory ran out, which it returns when it is called again. */
+/* Lends the next item of a handle where the session keeps it, and may wait for datagrams. It returns what
+ * `neli_host_next` does, but copies no byte, takes no memory for the item, and leaves it the next one: `lent` with its
+ * bytes stays until the next call of this host. At NELI_KERNEL_ERROR it is the error. NELI_LINK for NELI_MULTICAST
+ * counts as read when it is returned. NELI_HANDLE for NELI_HOST_UNASKED. */
 int32_t neli_host_lend(struct neli_host *host, size_t handle, struct neli_lent *lent);
 
 /* Goes on to a handle's next item, so that the one before counts as read; where none waits nothing changes. Both kinds
- * of reads may take turns. NELI_HANDLE if the handle is not open, or is NELI_HOST_UNASKED. NELI_MEMORY only for
- * NELI_MULTICAST, at a message that is an error or cannot be read, and then nothing changes. */
+ * of reads may take turns. NELI_HANDLE if the handle is not open, or is NELI_HOST_UNASKED. */
 int32_t neli_host_pass(struct neli_host *host, size_t handle);
 
+/* Whether a read of a handle returns at once; it looks at no socket. A loop over poll(2) sets a wait of 0, sends, reads
+ * each handle until the wait has ended (EAGAIN), and sleeps only if none is ready: what one read took in may be another
+ * handle's. */
+bool neli_host_is_ready(struct neli_host *host, size_t handle);
+
 /* Reports the verdict on the answer to a request, by the items read from it: whether `neli_host_next` returned all of
- * it. A code of `neli_router_verdict`, whose words hold here; NELI_WAITS also if there was no memory yet for the item
- * that was read last. Call it before the handle is closed. */
+ * it.
+ *   NELI_WAITS          more of it is to be read, or to come
+ *   NELI_OK             all of it was read; of a request without an answer: the socket was seen empty
+ *   NELI_INTERRUPTED    a message of it is marked with NLM_F_DUMP_INTR: the listed objects changed meanwhile, so
+ *                       entries may be missing or repeated
+ *   NELI_KERNEL_ERROR   the kernel answered with an error, or ended a dump with one: the code is in `verdict`
+ *   NELI_LINK           something was lost, or it was not sent: the number of errno.h is in `verdict`
+ *   NELI_SHORT          a datagram could not be read to its end while it was awaited
+ *   NELI_UNENDED        the socket was seen empty before its end
+ * All but NELI_WAITS are final. That of NELI_MULTICAST is NELI_WAITS; NELI_HANDLE if the handle is not open, or is
+ * NELI_HOST_UNASKED. Call it before the handle is closed. */
 int32_t neli_host_verdict(struct neli_host *host, size_t handle, struct neli_verdict *verdict);
 
 /* Closes the handle of a request, at any time: messages that still arrive for it are dropped. Or that of multicast.
@@ -138,6 +184,7 @@ struct neli_dump {
  *   NELI_INTERRUPTED    the listed objects changed meanwhile, so entries may be missing or repeated
  *   NELI_KERNEL_ERROR   the kernel refused it, or ended it with an error: `last` is its message for `neli_host_explain`
  *   NELI_LINK           a part of it was lost, or the wait has ended, as `neli_host_fault` reports
+ *   NELI_UNENDED        the kernel did not answer it to its end, as a list of routing without the body's header
  * or another code of `neli_host_send` and `neli_host_next`. */
 int32_t neli_host_dump(struct neli_host *host, const struct neli_dump *dump, struct neli_message *last);
 
@@ -145,6 +192,13 @@ int32_t neli_host_dump(struct neli_host *host, const struct neli_dump *dump, str
  * Messages for groups from before each attempt are dropped, since the state includes them; later ones are read as
  * before; apply them to the state. Its codes are those of `neli_host_dump`. */
 int32_t neli_host_resync(struct neli_host *host, const struct neli_dump *dump, struct neli_message *last);
+
+/* The same of several lists, as those of links, addresses and routes: what came for groups is dropped, and then each
+ * list is requested. If one may be complete when it is requested again, and its `times` allow it, all of this is done
+ * again. Its codes are those of the list that was requested last; the later ones are as they were. Without a list it
+ * drops what came. */
+int32_t neli_host_resync_all(struct neli_host *host, const struct neli_dump *dumps, size_t count,
+                             struct neli_message *last);
 
 /* ---- Items ---- */
 

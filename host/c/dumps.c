@@ -70,7 +70,7 @@ static uint16_t family_of(struct neli_host *host, const char *name) {
     return number;
 }
 
-/* The messages of the family netdev lack NLM_F_MULTI; the host sets it. */
+/* The messages of the family netdev lack NLM_F_MULTI. */
 static void a_dump_whose_messages_are_no_parts(void) {
     static const struct genlmsghdr all = {.cmd = DEV_GET, .version = 1};
     struct neli_host *maker = route_host(false), *host;
@@ -86,10 +86,10 @@ static void a_dump_whose_messages_are_no_parts(void) {
     want_whole(host, sent(host, family, NLM_F_DUMP | NLM_F_ACK, &all, sizeof all), family, 2 * MANY + 1);
     size_t broken_off = sent(host, family, NLM_F_DUMP, &all, sizeof all);
     size_t other = sent(host, family, NLM_F_DUMP, &all, sizeof all);
-    WANT(neli_host_next(host, broken_off, &message) == NELI_ITEM && (message.flags & NLM_F_MULTI) != 0);
+    WANT(neli_host_next(host, broken_off, &message) == NELI_ITEM);
     WANT(neli_host_close_request(host, broken_off) == NELI_OK);
     want_whole(host, other, family, 2 * MANY + 1);
-    WANT(host->ledger.count == 0);
+    WANT(in_use(host) == 0);
     neli_host_close(maker);
     neli_host_close(host);
 }

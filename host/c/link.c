@@ -49,6 +49,13 @@ int32_t link_open(struct link *link, int family, const uint32_t *groups, size_t 
     return link->stop < 0 ? failed(link) : NELI_OK;
 }
 
+int32_t link_open_over(struct link *link, uint32_t port, const struct neli_transport *over) {
+    *link = (struct link){.fd = -1, .stop = eventfd(0, EFD_CLOEXEC | EFD_NONBLOCK), .over = *over};
+    link->port = port;
+    link->wait = -1;
+    return link->stop < 0 ? failed(link) : NELI_OK;
+}
+
 void link_close(struct link *link) {
     if (link->fd >= 0) close(link->fd);
     if (link->stop >= 0) close(link->stop);
@@ -62,12 +69,19 @@ int32_t link_set_strict(struct link *link) {
     return NELI_OK;
 }
 
+/* Sends a datagram: 0, or the number in errno.h. */
+static int send_once(const struct link *link, const uint8_t *bytes, size_t length) {
+    if (link->over.send != NULL) return link->over.send(link->over.state, bytes, length);
+    return send(link->fd, bytes, length, MSG_DONTWAIT) < 0 ? errno : 0;
+}
+
 int32_t link_send(struct link *link, const uint8_t *bytes, size_t length) {
-    ssize_t sent;
     do
-        sent = send(link->fd, bytes, length, 0);
-    while (sent < 0 && errno == EINTR);
-    return sent < 0 ? failed(link) : NELI_OK;
+        errno = send_once(link, bytes, length);
+    while (errno == EINTR);
+    link->is_full = errno == EAGAIN;
+    if (link->is_full) return NELI_WAITS;
+    return errno != 0 ? failed(link) : NELI_OK;
 }
 
 /* The group of a datagram, from the control message. */
@@ -81,27 +95,39 @@ static uint32_t group_of(struct msghdr *header) {
     return 0;
 }
 
-/* Receives the next datagram: its length as it was sent, or -1. */
-static ssize_t receive(const struct link *link, struct sockaddr_nl *from, uint32_t *group) {
+/* Whether the socket is in a group. */
+static bool has_joined(const struct link *link, uint32_t group) {
+    uint32_t words[64] = {0};
+    socklen_t size = sizeof words;
+    if (group == 0 || group > 32 * 64) return false;
+    if (getsockopt(link->fd, SOL_NETLINK, NETLINK_LIST_MEMBERSHIPS, words, &size) < 0) return false;
+    return words[(group - 1) / 32] >> (group - 1) % 32 & 1;
+}
+
+/* Receives the kernel's next datagram from the socket: 0, or the number in errno.h. */
+static int receive(const struct link *link, struct neli_received *received) {
     union {
         struct cmsghdr aligned;
         uint8_t bytes[CMSG_SPACE(sizeof(struct nl_pktinfo))];
     } control;
-    struct iovec slice = {link->room, link->size - PADDING};
-    struct msghdr header = {
-        .msg_name = from,
-        .msg_namelen = sizeof *from,
-        .msg_iov = &slice,
-        .msg_iovlen = 1,
-        .msg_control = &control,
-        .msg_controllen = sizeof control,
-    };
-    ssize_t length;
-    do
-        length = recvmsg(link->fd, &header, MSG_TRUNC | MSG_DONTWAIT);
-    while (length < 0 && errno == EINTR);
-    *group = length < 0 ? 0 : group_of(&header);
-    return length;
+    for (;;) {
+        struct sockaddr_nl from = {0};
+        struct iovec slice = {link->room, link->size - PADDING};
+        struct msghdr header = {
+            .msg_name = &from,
+            .msg_namelen = sizeof from,
+            .msg_iov = &slice,
+            .msg_iovlen = 1,
+            .msg_control = &control,
+            .msg_controllen = sizeof control,
+        };
+        ssize_t length = recvmsg(link->fd, &header, MSG_TRUNC | MSG_DONTWAIT);
+        if (length < 0 && errno != EINTR) return errno;
+        if (length < 0 || from.nl_pid != 0) continue;
+        *received = (struct neli_received){.length = (size_t)length, .group = group_of(&header)};
+        received->is_joined = has_joined(link, received->group);
+        return 0;
+    }
 }
 
 static bool has_room(struct link *link, size_t size) {
@@ -129,21 +155,21 @@ static size_t completed(const struct link *link, size_t length) {
     return end;
 }
 
-int32_t link_receive(struct link *link, size_t *length, uint32_t *group) {
-    struct sockaddr_nl from;
+int32_t link_receive(struct link *link, struct neli_received *received) {
+    const struct neli_transport *over = &link->over;
     if (link->room == NULL && !has_room(link, ROOM + PADDING)) return NELI_MEMORY;
-    do {
-        from = (struct sockaddr_nl){0};
-        ssize_t received = receive(link, &from, group);
-        if (received < 0) return errno == EAGAIN ? NELI_WAITS : failed(link);
-        *length = (size_t)received;
-    } while (from.nl_pid != 0);
-    if (*length > link->size - PADDING) {
-        (void)has_room(link, *length + PADDING);
+    *received = (struct neli_received){0};
+    errno = over->receive != NULL ? over->receive(over->state, link->room, link->size - PADDING, received)
+                                  : receive(link, received);
+    link->is_empty = errno == EAGAIN;
+    if (link->is_empty || (over->receive != NULL && errno == EINPROGRESS)) return NELI_WAITS;
+    if (errno != 0) return failed(link);
+    if (received->length > link->size - PADDING) {
+        (void)has_room(link, received->length + PADDING);
         errno = EMSGSIZE;
         return failed(link);
     }
-    *length = completed(link, *length);
+    received->length = completed(link, received->length);
     return NELI_OK;
 }
 
@@ -157,7 +183,7 @@ int64_t link_end_of_wait(const struct link *link) {
     return link->wait < 0 ? -1 : milliseconds() + link->wait;
 }
 
-bool link_is_over(int64_t end) {
+static bool is_past(int64_t end) {
     return end >= 0 && milliseconds() >= end;
 }
 
@@ -168,8 +194,28 @@ static int left_until(int64_t end) {
     return left < 0 ? 0 : (int)left;
 }
 
+int32_t link_goes_on(struct link *link, int64_t end) {
+    struct pollfd stop = {.fd = link->stop, .events = POLLIN};
+    if (link->wait > 0 && is_past(end)) errno = EAGAIN;
+    else if (poll(&stop, 1, 0) > 0) errno = ECANCELED;
+    else return NELI_OK;
+    return failed(link);
+}
+
+/* Waits by the caller's function. */
+static int32_t wait_over(struct link *link, int64_t end) {
+    for (;;) {
+        if (link_goes_on(link, end) != NELI_OK) return NELI_LINK;
+        errno = link->over.wait(link->over.state, left_until(end));
+        if (errno == 0) return NELI_OK;
+        if (errno != EINTR || link->ends_by_signals) return failed(link);
+    }
+}
+
 int32_t link_wait(struct link *link, int64_t end) {
-    struct pollfd both[] = {{.fd = link->fd, .events = POLLIN}, {.fd = link->stop, .events = POLLIN}};
+    short events = link->is_full ? POLLIN | POLLOUT : POLLIN;
+    if (link->over.wait != NULL) return wait_over(link, end);
+    struct pollfd both[] = {{.fd = link->fd, .events = events}, {.fd = link->stop, .events = POLLIN}};
     for (;;) {
         int left = left_until(end), found = poll(both, 2, left);
         if (found < 0 && (errno != EINTR || link->ends_by_signals)) return failed(link);
@@ -180,24 +226,8 @@ int32_t link_wait(struct link *link, int64_t end) {
     }
 }
 
-int32_t link_goes_on(struct link *link, int64_t end) {
-    struct pollfd stop = {.fd = link->stop, .events = POLLIN};
-    if (link->wait > 0 && link_is_over(end)) errno = EAGAIN;
-    else if (poll(&stop, 1, 0) > 0) errno = ECANCELED;
-    else return NELI_OK;
-    return failed(link);
-}
-
 void link_stop(const struct link *link) {
     uint64_t one = 1;
     int before = errno;
     if (write(link->stop, &one, sizeof one) < 0) errno = before;
-}
-
-bool link_has_joined(const struct link *link, uint32_t group) {
-    uint32_t words[64] = {0};
-    socklen_t size = sizeof words;
-    if (group == 0 || group > 32 * 64) return false;
-    if (getsockopt(link->fd, SOL_NETLINK, NETLINK_LIST_MEMBERSHIPS, words, &size) < 0) return false;
-    return words[(group - 1) / 32] >> (group - 1) % 32 & 1;
 }

@@ -1,19 +1,44 @@
-#include "neli_host.h"
 #include "host.h"
+#include <errno.h>
+#include <limits.h>
 #include <linux/netlink.h>
+#include <stdio.h>
 #include <stdlib.h>
 #include <string.h>
+
+static bool is_made(struct neli_host **host) {
+    *host = malloc(sizeof **host);
+    if (*host != NULL) **host = (struct neli_host){.session = NELI_SESSION_CLOSED};
+    return *host != NULL;
+}
+
+/* Begins the session over a link, where `code` is that of its opening. */
+static int32_t begun(struct neli_host *host, int family, int32_t code) {
+    if (code != NELI_OK) return host_failed(host, host->link.fault);
+    return neli_session_new(&host->session, family, host->link.port, true);
+}
 
 int32_t neli_host_open(struct neli_host **host, int family, const uint32_t *groups, size_t count) {
     if (host == NULL) return NELI_NULL;
     *host = NULL;
     if (count > PTRDIFF_MAX / sizeof *groups || !neli_is_slice(groups, count)) return NELI_NULL;
-    *host = malloc(sizeof **host);
-    return *host != NULL ? host_begin(*host, family, groups, count) : NELI_MEMORY;
+    if (!is_made(host)) return NELI_MEMORY;
+    return begun(*host, family, link_open(&(*host)->link, family, groups, count));
+}
+
+int32_t neli_host_open_over(struct neli_host **host, int family, uint32_t port, const struct neli_transport *over) {
+    if (host == NULL) return NELI_NULL;
+    *host = NULL;
+    if (over == NULL || over->send == NULL || over->receive == NULL || over->wait == NULL) return NELI_NULL;
+    if (!is_made(host)) return NELI_MEMORY;
+    return begun(*host, family, link_open_over(&(*host)->link, port, over));
 }
 
 void neli_host_close(struct neli_host *host) {
-    if (host != NULL) host_end(host);
+    if (host == NULL) return;
+    link_close(&host->link);
+    neli_session_free(&host->session);
+    free(host->item);
     free(host);
 }
 
@@ -45,9 +70,7 @@ void neli_host_set_keeps_unasked(struct neli_host *host, bool keeps) {
 
 int32_t neli_host_set_strict(struct neli_host *host) {
     if (host == NULL) return NELI_NULL;
-    int32_t code = link_set_strict(&host->link);
-    if (code == NELI_LINK) host->fault = host->link.fault;
-    return code;
+    return link_set_strict(&host->link) == NELI_OK ? NELI_OK : host_failed(host, host->link.fault);
 }
 
 void neli_host_stop(const struct neli_host *host) {
@@ -66,74 +89,133 @@ const uint8_t *neli_host_datagram(const struct neli_host *host) {
     return host != NULL ? host->link.room : NULL;
 }
 
-/* ---- Several requests in one datagram ---- */
+/* ---- Lists ---- */
 
-/* Requests that are written into `host->request` and not sent yet. */
-struct batch {
-    size_t *handles, count;
-    size_t used;    /* so many bytes of the datagram */
-    uint32_t first; /* the number of the first */
-};
-
-static uint32_t answering_of(const struct neli_host *host, const struct neli_host_request *request) {
-    return ledger_answering(&host->ledger, request->type, request->flags, request->length);
+/* Drops what came for groups, until the link was seen empty. */
+static int32_t drop_multicast(struct neli_host *host) {
+    int64_t end = link_end_of_wait(&host->link);
+    int32_t code;
+    do {
+        code = host_take_in(host);
+        host_drop(host, NELI_READER_MULTICAST);
+        if (code == NELI_OK) code = link_goes_on(&host->link, end);
+    } while (code == NELI_OK);
+    if (code == NELI_WAITS) return NELI_OK;
+    return code == NELI_LINK ? host_failed(host, host->link.fault) : code;
 }
 
-/* Writes one more request, for which the room grows. */
-static int32_t write_next(struct neli_host *host, const struct neli_host_request *request, struct batch *batch) {
-    struct neli_sent sent;
-    uint32_t number;
-    for (bool has_grown = false;; has_grown = true) {
-        uint8_t *out = host->request != NULL ? host->request + batch->used : NULL;
-        size_t room = host->request_room - batch->used;
-        int32_t code = host_write(host, answering_of(host, request), request, out, room, &sent);
-        if (code == NELI_OK) break;
-        if (code != NELI_ROOM || has_grown) return code;
-        uint8_t *grown = realloc(host->request, batch->used + sent.length);
-        if (grown == NULL) return NELI_MEMORY;
-        host->request = grown;
-        host->request_room = batch->used + sent.length;
+/* Whether a list with this result may be complete when it is requested again. */
+static bool is_passing(const struct neli_host *host, int32_t code, const struct neli_verdict *verdict) {
+    if (code == NELI_LINK) return host->fault != EAGAIN && host->fault != EINTR && host->fault != ECANCELED;
+    if (code == NELI_KERNEL_ERROR) return verdict->error == -EBUSY || verdict->error == -ENOBUFS;
+    return code == NELI_INTERRUPTED;
+}
+
+/* Requests a list once. */
+static int32_t take_dump(struct neli_host *host, const struct neli_dump *dump, struct neli_message *last,
+                         struct neli_verdict *verdict) {
+    size_t handle;
+    uint16_t flags = dump->flags | NLM_F_DUMP;
+    int32_t code = neli_host_send(host, dump->type, flags, dump->body, dump->length, &handle);
+    if (code != NELI_OK) return code;
+    bool has_end = false;
+    dump->take(host, NULL, dump->list);
+    while ((code = neli_host_next(host, handle, last)) == NELI_ITEM) {
+        has_end = last->type == NLMSG_DONE;
+        if (!has_end) dump->take(host, last, dump->list);
     }
-    memcpy(&number, host->request + batch->used + offsetof(struct nlmsghdr, nlmsg_seq), sizeof number);
-    if (batch->count == 0) batch->first = number;
-    batch->handles[batch->count++] = sent.handle;
-    batch->used += sent.length;
-    return ledger_number(&host->ledger, number) == NULL ? NELI_OK : NELI_IN_USE;
+    int32_t judged = neli_host_verdict(host, handle, verdict);
+    neli_host_close_request(host, handle);
+    if (code == NELI_END && judged == NELI_OK && !has_end) return NELI_UNENDED;
+    return code == NELI_END ? judged : code;
 }
 
-/* Takes requests back that were not sent. */
-static void take_back(struct neli_host *host, const struct batch *batch) {
-    for (size_t i = batch->count; i-- > 0;) neli_router_close(&host->router, batch->handles[i]);
-    if (batch->count > 0) neli_router_set_number(&host->router, batch->first);
+static bool is_whole(const struct neli_dump *dump) {
+    return dump != NULL && dump->take != NULL && neli_is_slice(dump->body, dump->length);
 }
 
-static bool are_whole(const struct neli_host_request *requests, size_t count) {
-    if (count > PTRDIFF_MAX / sizeof *requests || !neli_is_slice(requests, count)) return false;
+int32_t neli_host_dump(struct neli_host *host, const struct neli_dump *dump, struct neli_message *last) {
+    struct neli_verdict verdict;
+    if (host == NULL || !is_whole(dump) || last == NULL) return NELI_NULL;
+    for (int times = 1;; times++) {
+        int32_t code = take_dump(host, dump, last, &verdict);
+        if (times >= dump->times || !is_passing(host, code, &verdict)) return code;
+    }
+}
+
+int32_t neli_host_resync(struct neli_host *host, const struct neli_dump *dump, struct neli_message *last) {
+    return neli_host_resync_all(host, dump, 1, last);
+}
+
+int32_t neli_host_resync_all(struct neli_host *host, const struct neli_dump *dumps, size_t count,
+                             struct neli_message *last) {
+    if (host == NULL || count > PTRDIFF_MAX / sizeof *dumps || !neli_is_slice(dumps, count) || last == NULL)
+        return NELI_NULL;
     for (size_t i = 0; i < count; i++)
-        if (!neli_is_slice(requests[i].body, requests[i].length)) return false;
-    return true;
+        if (!is_whole(&dumps[i])) return NELI_NULL;
+    struct neli_verdict verdict;
+    for (int times = 1;; times++) {
+        size_t taken = 0;
+        int32_t code = drop_multicast(host);
+        if (code != NELI_OK) return code;
+        while (taken < count && code == NELI_OK) code = take_dump(host, &dumps[taken++], last, &verdict);
+        if (code == NELI_OK || times >= dumps[taken - 1].times || !is_passing(host, code, &verdict)) return code;
+    }
 }
 
-int32_t neli_host_send_all(struct neli_host *host, const struct neli_host_request *requests, size_t count,
-                           size_t *handles) {
-    struct batch batch = {.handles = handles};
-    size_t dumps = 0;
-    if (host == NULL || !are_whole(requests, count) || !neli_is_slice(handles, count)) return NELI_NULL;
-    for (size_t i = 0; i < count; i++) dumps += answering_of(host, &requests[i]) == NELI_ANSWERING_DUMP;
-    if (dumps > 1) return NELI_KIND;
-    if (count == 0) return NELI_OK;
-    int32_t code = ledger_reserve(&host->ledger, count);
-    if (code == NELI_OK) code = host_settle(host);
-    for (size_t i = 0; i < count && code == NELI_OK; i++) code = write_next(host, &requests[i], &batch);
-    if (code == NELI_OK && (code = link_send(&host->link, host->request, batch.used)) == NELI_LINK)
-        host->fault = host->link.fault;
-    if (code != NELI_OK) {
-        take_back(host, &batch);
-        return code;
+/* ---- The item ---- */
+
+bool neli_host_find(const struct neli_host *host, const struct neli_walk *walk, uint16_t number,
+                    struct neli_attribute *found) {
+    return host != NULL && neli_find_attribute(host->item, host->item_length, walk, number, found) == NELI_ITEM;
+}
+
+const char *neli_host_text(const struct neli_host *host, const struct neli_attribute *attribute) {
+    if (host == NULL || attribute == NULL || attribute->payload > host->item_length) return NULL;
+    const uint8_t *payload = host->item + attribute->payload;
+    size_t length, left = host->item_length - attribute->payload;
+    if (attribute->payload_length > left) return NULL;
+    return neli_text_length(payload, attribute->payload_length, &length) == NELI_OK ? (const char *)payload : NULL;
+}
+
+/* The kernel's reason for its refusal, appended to the text. */
+static void append_words(const struct neli_host *host, const struct neli_answer *answer, char *text, size_t room) {
+    struct neli_attribute found;
+    size_t used = strlen(text);
+    uint32_t offset;
+    if (neli_host_find(host, &answer->attributes, NELI_ANSWER_TEXT, &found) && neli_host_text(host, &found) != NULL)
+        used += (size_t)snprintf(text + used, room - used, ": %s", neli_host_text(host, &found));
+    if (used < room && neli_host_find(host, &answer->attributes, NELI_ANSWER_OFFSET, &found) &&
+        neli_get_u32(host->item + found.payload, found.payload_length, 0, &offset) == NELI_OK)
+        snprintf(text + used, room - used, ", at byte %u of the request", offset);
+}
+
+void neli_host_explain(const struct neli_host *host, int32_t code, const struct neli_message *message, char *text,
+                       size_t room) {
+    struct neli_answer answer;
+    bool is_answer = host != NULL && code == NELI_KERNEL_ERROR;
+    if (text == NULL || room == 0) return;
+    if (is_answer && neli_get_answer(host->item, host->item_length, message, &answer) == NELI_OK) {
+        if (answer.code > -INT_MAX && answer.code < 0) snprintf(text, room, "%s", strerror(-answer.code));
+        else snprintf(text, room, "error %d", answer.code);
+        append_words(host, &answer, text, room);
+    } else if (host != NULL && code == NELI_LINK) {
+        snprintf(text, room, "%s", strerror(host->fault));
+    } else if (neli_error_text(code, text, room) != NELI_OK) {
+        snprintf(text, room, "code %d", code);
     }
-    for (size_t i = 0; i < count; i++) {
-        uint32_t answering = answering_of(host, &requests[i]);
-        ledger_add(&host->ledger, batch.first + (uint32_t)i, requests[i].flags, answering, handles[i]);
-    }
-    return NELI_OK;
+}
+
+/* ---- Datagrams ---- */
+
+int32_t neli_host_receive(struct neli_host *host, size_t *length, uint32_t *group) {
+    if (host == NULL || length == NULL || group == NULL) return NELI_NULL;
+    int64_t end = link_end_of_wait(&host->link);
+    struct neli_received received;
+    int32_t code;
+    while ((code = link_receive(&host->link, &received)) == NELI_WAITS)
+        if (link_wait(&host->link, end) != NELI_OK) return host_failed(host, host->link.fault);
+    *length = received.length;
+    *group = received.group;
+    return code == NELI_LINK ? host_failed(host, host->link.fault) : code;
 }

@@ -93,11 +93,19 @@ void want_loopback(struct neli_host *host, size_t handle) {
 void hand_in(struct neli_host *host, uint16_t type, const void *body, size_t length) {
     struct neli_writer writer = {0};
     uint8_t out[64];
+    size_t taken;
     WANT(neli_begin_message(out, sizeof out, &writer, type, 0, 0, 0) == NELI_OK);
     WANT(neli_put_bytes(out, sizeof out, &writer, body, length) == NELI_OK);
     WANT(neli_end_message(out, sizeof out, &writer) == NELI_OK);
-    WANT(neli_router_datagram(&host->router, out, writer.end, &link_group, 1) == NELI_OK);
-    host->heard.came++;
+    WANT(neli_session_receive(&host->session, out, writer.end, link_group, true, &taken) == NELI_OK);
+    WANT(taken == writer.end);
+}
+
+int in_use(struct neli_host *host) {
+    int count = 0;
+    for (uint32_t number = 0; number < 10000; number++)
+        count += neli_session_is_in_use(&host->session, number) == NELI_IN_USE;
+    return count;
 }
 
 void set_short_wait(struct neli_host *host) {

@@ -46,6 +46,9 @@ void want_loopback(struct neli_host *host, size_t handle);
 /* Hands in a message to the group of links, as the socket would. */
 void hand_in(struct neli_host *host, uint16_t type, const void *body, size_t length);
 
+/* How many of the sequence numbers below 10000 are in use. */
+int in_use(struct neli_host *host);
+
 /* A wait ends after a fifth of a second, as EAGAIN. */
 void set_short_wait(struct neli_host *host);
 

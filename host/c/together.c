@@ -54,24 +54,29 @@ static void some_are_closed_unread(void) {
 
 static void a_refusal_sends_none(void) {
     struct neli_host *host = route_host(false);
-    struct neli_message message;
-    struct neli_host_request requests[] = {question(&loopback), question(&none), question(&loopback)};
     struct neli_host_request dumps[] = {dump_of_links(), question(&loopback), dump_of_links()};
-    size_t handles[3];
-    size_t open = send_question(host, 1); /* which has the number 0 */
+    size_t handles[3], open = send_question(host, 1);
     WANT(neli_host_send_all(host, dumps, 3, handles) == NELI_KIND);
     dumps[0].flags = NLM_F_ROOT;
     dumps[2].flags = NLM_F_MATCH;
     WANT(neli_host_send_all(host, dumps, 3, handles) == NELI_KIND);
-    /* The third number is in use. */
-    WANT(neli_router_set_number(&host->router, UINT32_MAX - 1) == NELI_OK);
-    WANT(neli_host_send_all(host, requests, 3, handles) == NELI_IN_USE);
+    WANT(in_use(host) == 1);
     want_loopback(host, open);
-    set_short_wait(host);
-    WANT(neli_host_send(host, RTM_GETLINK, 0, &loopback, sizeof loopback, &open) == NELI_OK);
-    WANT(neli_host_next(host, open, &message) == NELI_ITEM && message.number == UINT32_MAX - 1);
-    WANT(neli_host_close_request(host, open) == NELI_OK);
     want_loopback(host, send_question(host, 1));
+    neli_host_close(host);
+}
+
+/* Numbers that are in use are skipped. */
+static void their_numbers_are_free(void) {
+    struct neli_host *host = route_host(false);
+    struct neli_host_request requests[] = {question(&loopback), question(&none), question(&loopback)};
+    size_t handles[3], open = send_question(host, 1); /* which has the number 0 */
+    WANT(neli_session_set_number(&host->session, UINT32_MAX - 1) == NELI_OK);
+    WANT(neli_host_send_all(host, requests, 3, handles) == NELI_OK);
+    want_loopback(host, handles[2]);
+    want_loopback(host, handles[0]);
+    want_no_such_link(host, handles[1]);
+    want_loopback(host, open);
     neli_host_close(host);
 }
 
@@ -108,7 +113,7 @@ static void they_may_be_too_long(void) {
     for (int i = 0; i < 3; i++) {
         WANT(is_over(host, neli_host_send_all(host, requests, 2, handles), EMSGSIZE));
         WANT(is_over(host, neli_host_send(host, RTM_GETLINK, NLM_F_ACK, body, LENGTH, &one), EMSGSIZE));
-        WANT(host->ledger.count == 0);
+        WANT(in_use(host) == 0);
     }
     want_loopback(host, send_question(host, 1));
     free(body);
@@ -152,7 +157,7 @@ static void memory_that_is_refused(void) {
         left_to_refusal = 0;
         bool ran_out = code == NELI_MEMORY;
         WANT(code == NELI_OK || (was_refused && ran_out));
-        WANT(host->ledger.count == (ran_out ? 0 : 3));
+        WANT(in_use(host) == (ran_out ? 0 : 3));
         refusals += ran_out;
         if (ran_out) WANT(neli_host_send_all(host, requests, 3, handles) == NELI_OK);
         want_loopback(host, handles[2]);
@@ -167,6 +172,7 @@ static const struct test tests[] = {
     {"each_has_its_answer", each_has_its_answer},
     {"some_are_closed_unread", some_are_closed_unread},
     {"a_refusal_sends_none", a_refusal_sends_none},
+    {"their_numbers_are_free", their_numbers_are_free},
     {"they_may_be_long", they_may_be_long},
     {"they_may_be_too_long", they_may_be_too_long},
     {"memory_that_is_refused", memory_that_is_refused},

@@ -18,7 +18,7 @@
 #include <time.h>
 #include <unistd.h>
 
-/* A request that is never answered: a change without ACK. */
+/* A request that is not answered: a change without ACK. */
 static size_t send_unanswered(struct neli_host *host) {
     struct body body = link_body(1, true);
     size_t handle = 0;
@@ -81,15 +81,18 @@ static void a_handle_that_is_closed_after_a_loss(void) {
 
 static void a_number_that_may_still_be_answered(void) {
     struct neli_host *host = route_host(false);
-    struct ifinfomsg link = {.ifi_index = 1};
-    size_t handle = send_question(host, 1);
-    WANT(neli_host_close_request(host, handle) == NELI_OK);
-    WANT(neli_router_set_number(&host->router, 0) == NELI_OK);
-    WANT(neli_host_send(host, RTM_GETLINK, NLM_F_ACK, &link, sizeof link, &handle) == NELI_IN_USE);
-    WANT(neli_router_set_number(&host->router, 1) == NELI_OK);
-    want_loopback(host, send_question(host, 1));
-    WANT(neli_router_set_number(&host->router, 0) == NELI_OK);
-    want_loopback(host, send_question(host, 1));
+    size_t first = send_question(host, 1), second;
+    WANT(neli_host_close_request(host, first) == NELI_OK);
+    WANT(neli_session_set_number(&host->session, 0) == NELI_OK);
+    second = send_question(host, 1);
+    WANT(second != first && in_use(host) == 2);
+    /* No number has more than 32 bits. */
+    WANT(neli_host_close_request(host, second + ((size_t)1 << 32)) == NELI_HANDLE);
+    want_loopback(host, second);
+    WANT(in_use(host) == 0 && neli_host_close_request(host, second) == NELI_HANDLE);
+    WANT(neli_session_set_number(&host->session, 0) == NELI_OK);
+    WANT((second = send_question(host, 1)) == first);
+    want_loopback(host, second);
     neli_host_close(host);
 }
 
@@ -150,8 +153,7 @@ static void what_nobody_reads_is_not_kept(void) {
     }
     WANT(allocated() < before + 100000);
     for (int i = 0; i < 3000; i++) WANT(neli_host_close_request(host, send_unanswered(host)) == NELI_OK);
-    WANT(host->ledger.count < 1000);
-    WANT(is_over(host, neli_host_next(host, NELI_MULTICAST, &message), EAGAIN) && host->ledger.count == 0);
+    WANT(is_over(host, neli_host_next(host, NELI_MULTICAST, &message), EAGAIN) && in_use(host) == 0);
     WANT(neli_host_close_request(host, NELI_MULTICAST) == NELI_OK);
     before = allocated();
     for (int i = 0; i < 1000; i++) {
@@ -222,7 +224,7 @@ static void a_loss_stands_where_it_came(void) {
     WANT(is_over(host, neli_host_next(host, told, &message), ENOBUFS));
     /* The end of a wait is no fault of the socket, and does not change its reported fault. */
     WANT(neli_host_close_request(host, told) == NELI_OK);
-    WANT(is_over(host, neli_host_next(host, send_unanswered(host), &message), EAGAIN));
+    WANT(is_over(host, neli_host_next(host, NELI_HOST_UNASKED, &message), EAGAIN));
     WANT(neli_host_next(host, NELI_MULTICAST, &message) == NELI_ITEM && message.type == RTM_NEWLINK);
     WANT(is_over(host, neli_host_next(host, NELI_MULTICAST, &message), ENOBUFS));
     WANT(neli_host_next(host, NELI_MULTICAST, &message) == NELI_ITEM);
@@ -230,12 +232,9 @@ static void a_loss_stands_where_it_came(void) {
     neli_host_close(host);
 }
 
-/* Hands in a fault of the socket. */
+/* Hands in a fault, as the socket would. */
 static void hand_in_fault(struct neli_host *host, int fault) {
-    host->held.is_fault = true;
-    host->last_fault = fault;
-    host->ledger.is_settled = false;
-    WANT(host_settle(host) == NELI_OK);
+    WANT(neli_session_fault(&host->session, fault) == NELI_OK);
 }
 
 static void each_request_has_its_own_fault(void) {
@@ -243,12 +242,15 @@ static void each_request_has_its_own_fault(void) {
     struct neli_message message;
     struct neli_lent lent;
     size_t first = send_question(host, 1);
-    hand_in_fault(host, ENOBUFS);
-    size_t second = send_question(host, 1);
     hand_in_fault(host, EMSGSIZE);
-    WANT(is_over(host, neli_host_lend(host, first, &lent), ENOBUFS));
-    WANT(is_over(host, neli_host_next(host, first, &message), ENOBUFS));
-    WANT(is_over(host, neli_host_next(host, second, &message), EMSGSIZE));
+    size_t second = send_question(host, 1);
+    hand_in_fault(host, ENOBUFS);
+    /* The third goes out once the socket was seen empty, and is whole. */
+    size_t third = send_question(host, 1);
+    WANT(is_over(host, neli_host_lend(host, first, &lent), EMSGSIZE));
+    WANT(is_over(host, neli_host_next(host, first, &message), EMSGSIZE));
+    WANT(is_over(host, neli_host_next(host, second, &message), ENOBUFS));
+    want_loopback(host, third);
     neli_host_close(host);
 }
 
@@ -364,9 +366,8 @@ static void a_wait_has_an_end(void) {
         }
     }
     host->link.wait = 300;
-    size_t handle = send_unanswered(host);
     int64_t before = milliseconds();
-    WANT(is_over(host, neli_host_next(host, handle, &message), EAGAIN));
+    WANT(is_over(host, neli_host_next(host, NELI_HOST_UNASKED, &message), EAGAIN));
     int64_t after = milliseconds();
     kill(child, SIGKILL);
     waitpid(child, NULL, 0);
@@ -385,13 +386,12 @@ static void a_wait_has_an_end_while_more_arrives(void) {
     struct neli_host *host = route_host(true), *other = route_host(false);
     struct neli_message message;
     set_buffer(host, 1 << 23);
-    size_t handle = send_unanswered(host);
     for (int i = 0; i < 3000; i++) set_loopback(other, i % 2 == 0);
     host->link.wait = 1;
-    WANT(is_over(host, neli_host_next(host, handle, &message), EAGAIN) && is_more(host));
+    WANT(is_over(host, neli_host_next(host, NELI_HOST_UNASKED, &message), EAGAIN) && is_more(host));
     link_stop(&host->link);
     host->link.wait = -1;
-    WANT(is_over(host, neli_host_next(host, handle, &message), ECANCELED) && is_more(host));
+    WANT(is_over(host, neli_host_next(host, NELI_HOST_UNASKED, &message), ECANCELED) && is_more(host));
     neli_host_close(other);
     neli_host_close(host);
 }
@@ -431,7 +431,7 @@ static void a_wait_is_stopped(void) {
 
 /* ---- Messages without a request, and other small things ---- */
 
-/* A request behind the router's back: its answer has a number that no request has. */
+/* A request behind the session's back: its answer has a number that no request has. */
 static void ask_by_hand(struct neli_host *host, uint32_t number) {
     struct ifinfomsg link = {.ifi_index = 1};
     struct neli_writer writer = {0};
@@ -484,6 +484,34 @@ static void play(int kernel, const struct neli_host *host, uint16_t type, uint32
     WANT(send(kernel, out, writer.end - cut, 0) == (ssize_t)(writer.end - cut));
 }
 
+static int full = -1;
+
+static void empty_it(int number) {
+    uint8_t bytes[64];
+    (void)number;
+    while (recv(full, bytes, sizeof bytes, MSG_DONTWAIT) > 0) continue;
+}
+
+/* A socket that takes no more: a send does not wait, and a read sends it once there is room. */
+static void what_would_block_is_sent_later(void) {
+    struct itimerval time = {.it_value.tv_usec = 100000};
+    struct neli_host *host;
+    struct neli_message message;
+    uint8_t bytes[64];
+    size_t handle;
+    full = play_kernel(&host);
+    do
+        handle = send_question(host, 1);
+    while (!host->link.is_full);
+    signal(SIGALRM, empty_it);
+    WANT(setitimer(ITIMER_REAL, &time, NULL) == 0);
+    host->link.wait = 500;
+    WANT(is_over(host, neli_host_next(host, handle, &message), EAGAIN) && !host->link.is_full);
+    WANT(recv(full, bytes, sizeof bytes, MSG_DONTWAIT) > 0 && recv(full, bytes, sizeof bytes, MSG_DONTWAIT) < 0);
+    neli_host_close(host);
+    close(full);
+}
+
 static void an_error_with_any_code(void) {
     struct neli_host *host;
     struct neli_message message;
@@ -526,6 +554,7 @@ static void a_socket_that_is_gone(void) {
     WANT(is_over(host, neli_host_send(host, RTM_GETLINK, NLM_F_DUMP, &all, sizeof all, &dump), EBADF));
     WANT(is_over(host, neli_host_next(host, open, &message), EBADF));
     WANT(is_over(host, neli_host_next(host, NELI_MULTICAST, &message), EBADF));
+    WANT(is_over(host, neli_host_next(host, NELI_HOST_UNASKED, &message), EBADF));
     WANT(is_over(host, resync(host, 3, &picture), EBADF));
     host->link.fd = -1;
     neli_host_close(host);
@@ -604,7 +633,39 @@ static void memory_that_is_refused_once(void) {
     }
 }
 
-/* Whichever allocation of a resync is refused, what it has not dropped stays, and losses keep their places. */
+/* Whichever allocation is refused while a loss comes, and messages before and after it, none of these is lost. */
+static void memory_that_is_refused_to_a_loss(void) {
+    bool was_refused = true;
+    for (unsigned k = 1; was_refused; k++) {
+        struct neli_host *other = route_host(false), *host = route_host(true);
+        struct neli_message message;
+        int32_t code;
+        int lost = 0, refused = 0;
+        WANT(k < 200);
+        set_short_wait(host);
+        host->keeps_unasked = true;
+        ask_by_hand(host, 4711);
+        set_buffer(host, 1);
+        for (int i = 0; i < 20; i++) set_loopback(other, i % 2 == 0);
+        left_to_refusal = k;
+        do {
+            code = neli_host_next(host, NELI_MULTICAST, &message);
+            lost += is_over(host, code, ENOBUFS);
+            refused += code == NELI_MEMORY;
+        } while (!is_over(host, code, EAGAIN));
+        was_refused = left_to_refusal == 0;
+        left_to_refusal = 0;
+        WANT(lost == 1 && refused <= 1);
+        /* The kernel reports a loss before what it had kept. */
+        WANT(is_over(host, neli_host_next(host, NELI_HOST_UNASKED, &message), ENOBUFS));
+        WANT(neli_host_next(host, NELI_HOST_UNASKED, &message) == NELI_ITEM && message.type == RTM_NEWLINK);
+        WANT(neli_host_next(host, NELI_HOST_UNASKED, &message) == NELI_ITEM && message.type == NLMSG_ERROR);
+        neli_host_close(other);
+        neli_host_close(host);
+    }
+}
+
+/* Whichever allocation of a resync is refused, it drops what came before, and a later loss is read. */
 static void memory_that_is_refused_to_a_resync(void) {
     static const int32_t error[5] = {-ENODEV, 16, 0, 0, 0};
     static const struct ifinfomsg link = {.ifi_index = 7};
@@ -624,8 +685,6 @@ static void memory_that_is_refused_to_a_resync(void) {
         left_to_refusal = 0;
         WANT(code == NELI_OK || (was_refused && code == NELI_MEMORY));
         hand_in_fault(host, ENOBUFS);
-        for (uint64_t left = host->heard.came - host->heard.read; left > 0; left--)
-            WANT(neli_host_next(host, NELI_MULTICAST, &message) == NELI_ITEM);
         WANT(is_over(host, neli_host_next(host, NELI_MULTICAST, &message), ENOBUFS));
         WANT(is_over(host, neli_host_next(host, NELI_MULTICAST, &message), EAGAIN));
         WANT(resync(host, 1, &picture) == NELI_OK && picture.mtu[1] != 0);
@@ -633,23 +692,23 @@ static void memory_that_is_refused_to_a_resync(void) {
     }
 }
 
-/* An item that had no memory is dropped by a resync too, also by one whose request is then refused. */
-static void an_item_without_memory_is_dropped(void) {
-    static const uint8_t body[48];
+/* An item that had no memory stays the next one, and is lent; a resync drops it too. */
+static void an_item_without_memory(void) {
+    static const struct ifinfomsg link = {.ifi_index = 7};
     static struct picture picture;
     struct neli_host *host = route_host(true);
     struct neli_message message;
+    struct neli_lent lent;
     set_short_wait(host);
-    for (unsigned k = 1; !host->is_taken; k++) {
-        WANT(k < 8);
-        /* Each is longer than those before, so that the room for an item grows. */
-        hand_in(host, RTM_DELLINK, body, sizeof(struct ifinfomsg) + 4 * k);
-        left_to_refusal = k;
-        (void)neli_host_next(host, NELI_MULTICAST, &message);
+    for (int i = 0; i < 2; i++) {
+        hand_in(host, RTM_DELLINK, &link, sizeof link);
+        left_to_refusal = 1;
+        WANT(neli_host_next(host, NELI_MULTICAST, &message) == NELI_MEMORY);
+        left_to_refusal = 0;
+        WANT(neli_host_lend(host, NELI_MULTICAST, &lent) == NELI_ITEM && lent.message.type == RTM_DELLINK);
+        if (i == 0) WANT(neli_host_pass(host, NELI_MULTICAST) == NELI_OK);
     }
-    left_to_refusal = 0;
-    (void)send_unanswered(host);
-    WANT(neli_router_set_number(&host->router, 0) == NELI_OK && resync(host, 1, &picture) == NELI_IN_USE);
+    WANT(resync(host, 1, &picture) == NELI_OK);
     WANT(is_over(host, neli_host_next(host, NELI_MULTICAST, &message), EAGAIN));
     neli_host_close(host);
 }
@@ -670,13 +729,15 @@ static const struct test tests[] = {
     {"a_wait_has_an_end_while_more_arrives", a_wait_has_an_end_while_more_arrives},
     {"a_wait_is_stopped", a_wait_is_stopped},
     {"what_was_not_asked_for_ends_nothing", what_was_not_asked_for_ends_nothing},
+    {"what_would_block_is_sent_later", what_would_block_is_sent_later},
     {"an_error_with_any_code", an_error_with_any_code},
     {"a_padding_that_was_left_out", a_padding_that_was_left_out},
     {"a_socket_that_is_gone", a_socket_that_is_gone},
     {"a_request_of_many_bytes", a_request_of_many_bytes},
     {"memory_that_is_refused_once", memory_that_is_refused_once},
+    {"memory_that_is_refused_to_a_loss", memory_that_is_refused_to_a_loss},
     {"memory_that_is_refused_to_a_resync", memory_that_is_refused_to_a_resync},
-    {"an_item_without_memory_is_dropped", an_item_without_memory_is_dropped},
+    {"an_item_without_memory", an_item_without_memory},
 };
 
 int main(int argc, char **argv) {

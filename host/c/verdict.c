@@ -82,19 +82,25 @@ static void a_dump_that_is_repeated(void) {
     done(other, RTM_NEWLINK, NLM_F_CREATE | NLM_F_EXCL, pair("pair149", "peer149"));
     listing.removals = 3;
     WANT(count_all(host, 3, &listing) == NELI_INTERRUPTED && listing.begun == 3 && listing.count > 2 * MANY - 10);
+    WANT(in_use(host) == 0);
     neli_host_close(other);
     neli_host_close(host);
 }
 
-/* Requests the addresses of one link. */
-static int32_t addresses_of(struct neli_host *host, uint32_t index, struct neli_verdict *verdict, int *count) {
+/* Requests the addresses of one link. Where the kernel filters a list each address states it. */
+static int32_t addresses_of(struct neli_host *host, uint32_t index, bool is_filtered, struct neli_verdict *verdict,
+                            int *count) {
     struct ifaddrmsg of = {.ifa_family = AF_INET, .ifa_index = index};
     struct neli_message message;
     size_t handle;
     int32_t code;
     *count = 0;
     WANT(neli_host_send(host, RTM_GETADDR, NLM_F_DUMP, &of, sizeof of, &handle) == NELI_OK);
-    while ((code = neli_host_next(host, handle, &message)) == NELI_ITEM) *count += message.type == RTM_NEWADDR;
+    while ((code = neli_host_next(host, handle, &message)) == NELI_ITEM) {
+        if (message.type != RTM_NEWADDR) continue;
+        WANT(((message.flags & NLM_F_DUMP_FILTERED) != 0) == is_filtered);
+        (*count)++;
+    }
     WANT(code == NELI_END);
     code = neli_host_verdict(host, handle, verdict);
     WANT(neli_host_close_request(host, handle) == NELI_OK);
@@ -115,10 +121,10 @@ static void a_dump_that_fails_at_its_end(void) {
     char text[64];
     int count;
     set_loopback(host, true);
-    WANT(addresses_of(host, 4711, &verdict, &count) == NELI_OK && count == 1 && verdict.filtered == 0);
+    WANT(addresses_of(host, 4711, false, &verdict, &count) == NELI_OK && count == 1 && verdict.filtered == 0);
     WANT(link_set_strict(&host->link) == NELI_OK);
-    WANT(addresses_of(host, 1, &verdict, &count) == NELI_OK && count == 1 && verdict.filtered == 1);
-    WANT(addresses_of(host, 4711, &verdict, &count) == NELI_KERNEL_ERROR);
+    WANT(addresses_of(host, 1, true, &verdict, &count) == NELI_OK && count == 1 && verdict.filtered == 1);
+    WANT(addresses_of(host, 4711, true, &verdict, &count) == NELI_KERNEL_ERROR);
     WANT(count == 0 && verdict.error == -ENODEV);
     WANT(neli_host_dump(host, &dump, &last) == NELI_KERNEL_ERROR && last.type == NLMSG_DONE);
     neli_host_explain(host, NELI_KERNEL_ERROR, &last, text, sizeof text);
@@ -141,10 +147,20 @@ static void other_answers(void) {
     neli_host_close(host);
 }
 
+/* Linux does not answer a dump of routing without its header (rtnetlink_rcv_msg), and that is no empty list. */
+static void a_dump_that_is_not_answered(void) {
+    struct neli_host *host = route_host(false);
+    struct neli_dump dump = {.type = RTM_GETLINK, .times = 3, .take = ignore};
+    struct neli_message last;
+    WANT(neli_host_dump(host, &dump, &last) == NELI_UNENDED);
+    neli_host_close(host);
+}
+
 static const struct test tests[] = {
     {"a_dump_that_is_interrupted", a_dump_that_is_interrupted},
     {"a_dump_that_is_repeated", a_dump_that_is_repeated},
     {"a_dump_that_fails_at_its_end", a_dump_that_fails_at_its_end},
+    {"a_dump_that_is_not_answered", a_dump_that_is_not_answered},
     {"other_answers", other_answers},
 };
 

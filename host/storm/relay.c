@@ -1,6 +1,7 @@
 /* `relay FD SEED` passes requests from a socket pair on to the kernel, and the kernel's datagrams back: by the seed it
  * loses datagrams, with and without the fault that the kernel would report, repeats them, and reorders them; and it
  * changes a link now and then, so that there are notifications. After so many requests it passes on all unchanged.
+ * A datagram of one byte asks it to pass on all that it has, and then one byte.
  * `shim.c` defines the form of its output. */
 #define _GNU_SOURCE
 #include <errno.h>
@@ -104,7 +105,8 @@ static void relay(const uint8_t *bytes, size_t length) {
     pass_later(requests >= STORM);
 }
 
-static void from_kernel(void) {
+/* Relays the kernel's next datagram; false if there is none. */
+static bool from_kernel(void) {
     static uint8_t room[1 << 17];
     union {
         struct cmsghdr aligned;
@@ -113,18 +115,26 @@ static void from_kernel(void) {
     struct iovec slice = {room + 4, sizeof room - 4};
     struct msghdr header = {.msg_iov = &slice, .msg_iovlen = 1, .msg_control = &control};
     header.msg_controllen = sizeof control;
-    ssize_t length = recvmsg(kernel, &header, 0);
-    if (length < 0) return pass_fault();
+    ssize_t length = recvmsg(kernel, &header, MSG_DONTWAIT);
+    if (length < 0 && errno == EAGAIN) return false;
+    if (length < 0) return pass_fault(), true;
     struct cmsghdr *it = CMSG_FIRSTHDR(&header);
     memset(room, 0, 4);
     if (it != NULL && it->cmsg_type == NETLINK_PKTINFO) memcpy(room, CMSG_DATA(it), 4);
     relay(room, (size_t)length + 4);
+    return true;
 }
 
 static void from_program(void) {
     static uint8_t room[1 << 17];
     ssize_t length = recv(pair, room, sizeof room, 0);
     if (length <= 0) exit(0);
+    if (length == 1) {
+        while (from_kernel()) continue;
+        pass_later(true);
+        pass(room, 1);
+        return;
+    }
     requests++;
     for (unsigned i = below(4); i > 0 && below(3) == 0; i--) make_noise();
     if (send(kernel, room, (size_t)length, 0) < 0) exit(1);
@@ -141,7 +151,7 @@ int main(int argc, char **argv) {
     for (;;) {
         struct pollfd both[] = {{.fd = pair, .events = POLLIN}, {.fd = kernel, .events = POLLIN}};
         if (poll(both, 2, 3) == 0) pass_later(true);
-        if (both[1].revents != 0) from_kernel();
+        if (both[1].revents != 0) (void)from_kernel();
         if (both[0].revents != 0) from_program();
     }
 }

@@ -2,7 +2,10 @@
  * netlink socket one end of a socket pair, whose other end has the program `$NELI_RELAY` by the seed `$NELI_SEED`. The
  * datagrams that the program sends and receives are written into the file `$NELI_LOG`, as they pass. On the pair a
  * datagram begins with four bytes: its group, or FAULT, and then four bytes with the number in errno.h. In the file
- * each record begins with its kind (1 sent, 2 given, 3 a fault), its group or number, and its length. */
+ * each record begins with its kind (1 sent, 2 given, 3 a fault, 4 nothing is left), its group or number, its length.
+ *
+ * The kernel has answered when a request is sent. So before the program is told that nothing is left the relay is asked
+ * whether that is so, by a datagram of one byte; it passes on all that it has, and then one byte. */
 #define _GNU_SOURCE
 #include <dlfcn.h>
 #include <errno.h>
@@ -10,6 +13,7 @@
 #include <linux/netlink.h>
 #include <pthread.h>
 #include <signal.h>
+#include <stdbool.h>
 #include <stdint.h>
 #include <stdio.h>
 #include <stdlib.h>
@@ -21,6 +25,8 @@
 #define JOINED 1u
 
 static int relayed = -1, written = -1;
+static bool is_asked; /* whether the relay was asked, and has not answered */
+static bool has_sent; /* whether the program has sent something since */
 static uint32_t port;
 static pthread_mutex_t lock = PTHREAD_MUTEX_INITIALIZER;
 
@@ -83,7 +89,8 @@ int getsockopt(int fd, int level, int name, void *value, socklen_t *size) {
 static ssize_t sent(int fd, const void *bytes, size_t length, int flags) {
     pthread_mutex_lock(&lock);
     note(1, 0, bytes, (uint32_t)length);
-    ssize_t result = REAL(send)(fd, bytes, length, flags);
+    has_sent = true;
+    ssize_t result = REAL(send)(fd, bytes, length, flags & ~MSG_DONTWAIT);
     pthread_mutex_unlock(&lock);
     return result;
 }
@@ -110,12 +117,30 @@ static ssize_t give(struct msghdr *header, uint32_t group, const uint8_t *bytes,
     return (ssize_t)length;
 }
 
+/* Receives from the relay; EAGAIN once the relay has said that nothing is left of what was sent. */
+static ssize_t receive(uint8_t *room, size_t size, int flags) {
+    for (;;) {
+        ssize_t length = REAL(recv)(relayed, room, size, is_asked ? 0 : flags & MSG_DONTWAIT);
+        bool is_empty = length < 0 && errno == EAGAIN;
+        if (!is_empty && length != 1) return length;
+        if (length == 1 && !has_sent) {
+            is_asked = false;
+            note(4, 0, NULL, 0);
+            errno = EAGAIN;
+            return -1;
+        }
+        has_sent = false;
+        is_asked = true;
+        if (REAL(send)(relayed, "", 1, MSG_NOSIGNAL) < 0) return -1;
+    }
+}
+
 ssize_t recvmsg(int fd, struct msghdr *header, int flags) {
     static uint8_t room[1 << 17];
     uint32_t head[2];
     if (fd != relayed) return REAL(recvmsg)(fd, header, flags);
     pthread_mutex_lock(&lock);
-    ssize_t length = REAL(recv)(fd, room, sizeof room, flags & MSG_DONTWAIT);
+    ssize_t length = receive(room, sizeof room, flags);
     if (length >= (ssize_t)sizeof head) memcpy(head, room, sizeof head);
     if (length >= 0 && length < 4) errno = ECONNRESET, length = -1;
     else if (length >= 0 && head[0] == FAULT) {

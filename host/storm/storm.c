@@ -150,7 +150,9 @@ int main(int argc, char **argv) {
         close_at(count - 1);
     }
     while (listen_once(0)) continue;
-    printf("open %zu\n", host->ledger.count);
+    count = 0;
+    for (unsigned i = 0; i < number; i++) count += neli_session_is_in_use(&host->session, i) != NELI_OK;
+    printf("open %zu\n", count);
     neli_host_close(host);
     return 0;
 }
