@@ -1,7 +1,7 @@
 """A kernel to test against, for Python over libneli.so: a client runs in a test with no kernel and no namespace.
 
-A SimulatedSocket has the calls of a NetlinkSocket, and a function of yours serves its requests. The answers are made by
-the proved library, as bytes, and each is given to its request by its router.
+A SimulatedSocket is a NetlinkSocket over a function of yours, which serves its requests, in place of the kernel's
+socket. The answers are made by the proved library, as bytes; a script says which are lost, repeated or interrupted.
 
     import neli
     from neli_kernel import SimulatedSocket
@@ -13,18 +13,22 @@ the proved library, as bytes, and each is given to its request by its router.
         assert [it.get_attr(neli.IFLA_IFNAME).text() for it in sock.dump(neli.RTM_GETLINK)] == ["lo"]
 """
 
+from __future__ import annotations
+
+import collections
 import ctypes
 import errno
-import io
 import os
 import struct
 from collections.abc import Mapping
+from typing import Any, Callable, Dict, Iterable, Union
 
 import neli
-from neli import ANSWERING_DUMP, END, HANDLE, ITEM, KERNEL_ERROR, KIND, LINK, MEMORY, MULTICAST, NLM_F_ACK
-from neli import NLM_F_MULTI, NLMSG_MIN_TYPE, OK, OVERRUN, ROOM, WAITS
+from neli import END, ITEM, NLM_F_DUMP_INTR, OK, ROOM
 
 __all__ = ["SimulatedSocket", "Request", "requests", "notification"]
+
+_ExtAck = Union[neli._Bytes, Dict[int, Any]]
 
 
 class _Request(ctypes.Structure):
@@ -33,19 +37,25 @@ class _Request(ctypes.Structure):
                 ("wants_routing_dump", ctypes.c_uint8), ("wants_echo", ctypes.c_uint8)]
 
 
-class _Opaque(ctypes.Structure):
-    """A router or a dump, closed as it is made."""
+class _KernelDump(ctypes.Structure):
+    """A dump, closed as it is made."""
 
     _fields_ = [("is_open", ctypes.c_bool), ("state", ctypes.c_void_p)]
 
 
-class _Sent(ctypes.Structure):
-    _fields_ = [("length", ctypes.c_size_t), ("handle", ctypes.c_size_t)]
+class _Received(ctypes.Structure):
+    _fields_ = [("length", ctypes.c_size_t), ("group", ctypes.c_uint32), ("is_joined", ctypes.c_bool)]
 
 
-class _Item(ctypes.Structure):
-    _fields_ = [("type", ctypes.c_uint16), ("flags", ctypes.c_uint16), ("number", ctypes.c_uint32),
-                ("port", ctypes.c_uint32), ("error", ctypes.c_int32)]
+class _Transport(ctypes.Structure):
+    _fields_ = [("state", ctypes.c_void_p), ("send", ctypes.c_void_p), ("receive", ctypes.c_void_p),
+                ("wait", ctypes.c_void_p)]
+
+
+# The types of its functions.
+_SEND = ctypes.CFUNCTYPE(ctypes.c_int, ctypes.c_void_p, ctypes.c_void_p, ctypes.c_size_t)
+_RECEIVE = ctypes.CFUNCTYPE(ctypes.c_int, ctypes.c_void_p, ctypes.c_void_p, ctypes.c_size_t, ctypes.POINTER(_Received))
+_WAIT = ctypes.CFUNCTYPE(ctypes.c_int, ctypes.c_void_p, ctypes.c_int)
 
 
 def _library():
@@ -53,18 +63,6 @@ def _library():
     pointer, size, u16, u32 = ctypes.c_void_p, ctypes.c_size_t, ctypes.c_uint16, ctypes.c_uint32
     i32, slice_of, room = ctypes.c_int32, [ctypes.c_char_p, size], [pointer, size, pointer]
     calls = {
-        "neli_c_router_new": [pointer, u32],
-        "neli_c_router_free": [pointer],
-        "neli_c_router_send": [pointer, u16, u16, *slice_of, *room],
-        "neli_c_router_datagram": [pointer, *slice_of, pointer, size],
-        "neli_c_router_fault": [pointer, i32],
-        "neli_c_router_read": [pointer, size, pointer],
-        "neli_c_router_lend": [pointer, size, pointer],
-        "neli_c_router_pass": [pointer, size],
-        "neli_c_router_listen": [pointer, pointer],
-        "neli_c_router_item": [pointer, *room],
-        "neli_c_router_verdict": [pointer, size, pointer],
-        "neli_c_router_give_up": [pointer, size],
         "neli_c_next_request": [*slice_of, pointer, u32, pointer],
         "neli_c_kernel_ack": [pointer, *slice_of, *room],
         "neli_c_kernel_capped_error": [pointer, i32, *slice_of, *room],
@@ -84,7 +82,6 @@ def _library():
 
 
 _lib = _library()
-_NO_BYTES = ctypes.create_string_buffer(1)
 
 
 def _made(call, *words):
@@ -124,18 +121,24 @@ class Request(neli.Message):
     `ext_ack` 32, if `ext_ack` is no list of attributes, and if memory runs out.
     """
 
+    is_handled: bool
+    wants_acknowledgement: bool
+    wants_dump: bool
+    wants_routing_dump: bool
+    wants_echo: bool
+
     def __init__(self, data, read):
         super().__init__(data, read.message)
         self.port, self._asked = read.port, read
         for name in ("is_handled", "wants_acknowledgement", "wants_dump", "wants_routing_dump", "wants_echo"):
             setattr(self, name, bool(getattr(read, name)))
 
-    def ack(self, ext_ack=b""):
+    def ack(self, ext_ack: _ExtAck = b"") -> bytes:
         """The acknowledgement."""
         text = _listed(ext_ack)
         return _made(_lib.neli_c_kernel_ack, ctypes.byref(self._asked), text, len(text))
 
-    def error(self, error, ext_ack=b"", is_capped=True):
+    def error(self, error: int, ext_ack: _ExtAck = b"", is_capped: bool = True) -> bytes:
         """The error with the request's header alone, or with the whole request."""
         neli._fit_error("error", error)
         text, asked = _listed(ext_ack), ctypes.byref(self._asked)
@@ -143,13 +146,14 @@ class Request(neli.Message):
             return _made(_lib.neli_c_kernel_capped_error, asked, error, text, len(text))
         return _made(_lib.neli_c_kernel_error, self._data, len(self._data), asked, error, text, len(text))
 
-    def reply(self, msg_type, body=b"", msg_flags=0):
+    def reply(self, msg_type: int, body: neli._Bytes = b"", msg_flags: int = 0) -> bytes:
         """One reply."""
         neli._fit(16, msg_type=msg_type, msg_flags=msg_flags)
         body = neli._bytes("body", body)
         return _made(_lib.neli_c_kernel_reply, ctypes.byref(self._asked), msg_type, msg_flags, body, len(body))
 
-    def dump(self, listed, msg_flags=0, error=0, ext_ack=b"", limit=8192):
+    def dump(self, listed: Iterable[Mapping[str, Any]], msg_flags: int = 0, error: int = 0, ext_ack: _ExtAck = b"",
+             limit: int = 8192) -> list[bytes]:
         """The datagrams of a dump: its messages are {"type": .., "body": .., "flags": ..}, and the end has the rest.
 
         A ValueError also if a message is longer than `limit`.
@@ -157,7 +161,7 @@ class Request(neli.Message):
         neli._fit(16, msg_flags=msg_flags)
         neli._fit(64, limit=limit)
         neli._fit_error("error", error)
-        dump, text = _Opaque(), _listed(ext_ack)
+        dump, text = _KernelDump(), _listed(ext_ack)
         at = ctypes.byref(dump)
         try:
             codes = [_lib.neli_c_kernel_dump_new(at, ctypes.byref(self._asked), limit)]
@@ -175,13 +179,14 @@ class Request(neli.Message):
             _lib.neli_c_kernel_dump_free(at)
 
 
-def requests(data, port):
+def requests(data: neli._Bytes, port: int) -> list[Request]:
     """The requests of a datagram that the socket of a port sent.
 
     A ValueError if it cannot be read to its end, or if the port does not fit 32 bits.
     """
     neli._fit(32, port=port)
-    data, found = neli._bytes("data", data), []
+    data = neli._bytes("data", data)
+    found: list[Request] = []
     walk = neli._Walk(0, len(data))
     while True:
         read = _Request()
@@ -193,19 +198,7 @@ def requests(data, port):
         found.append(Request(data, read))
 
 
-def _as_parts(datagram, number):
-    """The datagram with NLM_F_MULTI in each message of a dump of this number, as the C layer sets it."""
-    data, walk, read = bytearray(datagram), neli._Walk(0, len(datagram)), neli._Message()
-    while True:
-        place = walk.place
-        code = _lib.neli_c_next_message(datagram, len(datagram), ctypes.byref(walk), ctypes.byref(read))
-        if code != ITEM:
-            return bytes(data)
-        if read.number == number and read.type >= NLMSG_MIN_TYPE:
-            struct.pack_into("=H", data, place + 6, read.flags | NLM_F_MULTI)
-
-
-def notification(msg_type, body=b"", msg_flags=0, number=0, port=0):
+def notification(msg_type: int, body: neli._Bytes = b"", msg_flags: int = 0, number: int = 0, port: int = 0) -> bytes:
     """What groups get; number and port are those of the request that caused it, or 0.
 
     A ValueError if it is too long, if type or flags do not fit 16 bits or number or port 32, and if memory runs out.
@@ -216,193 +209,188 @@ def notification(msg_type, body=b"", msg_flags=0, number=0, port=0):
     return _made(_lib.neli_c_kernel_notification, msg_type, msg_flags, number, port, body, len(body))
 
 
-class SimulatedSocket(neli._Socket):
+def _interrupted(datagram):
+    """The datagram with NLM_F_DUMP_INTR in each of its messages."""
+    data, walk, read = bytearray(datagram), neli._Walk(0, len(datagram)), neli._Message()
+    while True:
+        place = walk.place
+        code = _lib.neli_c_next_message(datagram, len(datagram), ctypes.byref(walk), ctypes.byref(read))
+        if code != ITEM:
+            return bytes(data)
+        struct.pack_into("=H", data, place + 6, read.flags | NLM_F_DUMP_INTR)
+
+
+class _Link:
+    """What stands in place of a socket: what has come, in its order, and by the script what comes of the next."""
+
+    def __init__(self, serve, port, raised):
+        self.serve, self.port, self.raised = serve, port, raised
+        self.queue, self.script = collections.deque(), collections.deque()  # of datagrams with their group, and faults
+        self.ends = ()  # of a pipe, which can be read from what comes on until the queue was seen empty
+
+    def add(self, it):
+        self.queue.append(it)
+        self.signal()
+
+    def signal(self):
+        try:
+            if self.ends:
+                os.write(self.ends[1], b"\0")
+        except BlockingIOError:  # it is full, and so can be read
+            pass
+
+    def is_empty(self):
+        """Whether nothing is there; what comes after it was seen can be seen by the pipe."""
+        try:
+            if self.ends and not self.queue:
+                os.read(self.ends[0], 1 << 16)
+        except BlockingIOError:
+            pass
+        return not self.queue
+
+    def arrive(self, datagram, group):
+        step = self.script.popleft() if self.script else "arrives"
+        if step == "interrupted":
+            datagram = _interrupted(datagram)
+        if not isinstance(step, str):
+            self.add(step)
+        elif step != "lost":
+            for _ in range(1 + (step == "repeated")):
+                self.add((datagram, group))
+
+    def fileno(self):
+        if not self.ends:
+            self.ends = os.pipe2(os.O_CLOEXEC | os.O_NONBLOCK)
+            self.signal()
+        return self.ends[0]
+
+    def close(self):
+        ends, self.ends = self.ends, ()
+        for it in ends:
+            os.close(it)
+
+    # What the library calls. No exception comes out of such a function.
+
+    def send(self, _state, data, length):
+        try:
+            for request in requests(ctypes.string_at(data, length), self.port):
+                for datagram in neli._items("what serve returns", self.serve(request), "a list of datagrams"):
+                    self.arrive(neli._bytes("each datagram of serve", datagram), 0)
+            return 0
+        except BaseException as raised:
+            self.raised.append(raised)
+            return errno.EIO
+
+    def receive(self, _state, out, room, received):
+        if self.is_empty():
+            return errno.EAGAIN
+        it = self.queue.popleft()
+        if not isinstance(it, tuple):
+            return it
+        datagram, group = it
+        ctypes.memmove(out, datagram, min(len(datagram), room))
+        received[0] = _Received(len(datagram), group, group != 0)
+        return 0
+
+    def wait(self, _state, _milliseconds):
+        """Nothing comes meanwhile: the time has passed, unless something is there."""
+        return 0 if self.queue else errno.EAGAIN
+
+
+class SimulatedSocket(neli.NetlinkSocket):
     """A socket with a kernel of your own: `serve` gives the datagrams of the answer to a Request.
 
-    It never waits, is in all groups, and has no file descriptor. Where nothing is left, a read raises a NetlinkError of
-    EAGAIN, as that of a socket whose wait has ended. What `serve` raises, the request raises; it may call `deliver` and
-    `fault`. A ValueError if the family does not fit 16 bits, or the port 32.
+    It is in all groups, and a wait takes no time: where nothing is left, it has ended. What `serve` raises is raised by
+    the call that sends the request; that is a later one than `request` where a dump waits for the one before. `serve`
+    may call `deliver` and `fault`, and begins no other call. A ValueError if the family does not fit 16 bits, or the
+    port 32.
     """
 
-    def __init__(self, serve, family=neli.NETLINK_ROUTE, port=4711):
+    def __init__(self, serve: Callable[[Request], Iterable[neli._Bytes]], family: int = neli.NETLINK_ROUTE,
+                 port: int = 4711):
         if not callable(serve):
             raise neli._wrong("serve", serve, "a function")
         neli._fit(32, port=port)
-        self._serve, self._port, self._router, self._is_stopped = serve, port, _Opaque(), False
-        self._receive_buffer = 212992
+        self._serve, self._own_port, self._receive_buffer = serve, port, 212992
+        self._raised: list[BaseException] = []  # what `serve` raised in the call that is under way
         super().__init__(family)
 
-    port = property(lambda self: self._port)
-
-    def _open(self, _groups):
-        self._shut()
-        at = ctypes.byref(self._router)
-        self._well(_lib.neli_c_router_new(at, self._port))
-        self._at, self._is_stopped = at, False
-        # The fault of each open request, or 0; the faults for groups, each with the number of messages before it.
-        self._faults, self._losses, self._came, self._heard, self._fault = {}, [], 0, 0, 0
+    def _open_host(self, at, _groups):
+        self._link = link = _Link(self._serve, self._own_port, self._raised)
+        self._calls = _SEND(link.send), _RECEIVE(link.receive), _WAIT(link.wait)
+        over = _Transport(None, *(ctypes.cast(it, ctypes.c_void_p) for it in self._calls))
+        return _lib.neli_host_open_over(at, self.family, self._own_port, ctypes.byref(over))
 
     def _free(self, at):
-        _lib.neli_c_router_free(at)
+        super()._free(at)
+        self._link.close()
 
-    def fileno(self):
-        """Raises an io.UnsupportedOperation: there is none."""
-        raise io.UnsupportedOperation("a simulated socket has no file descriptor")
+    def _call(self, call, *words):
+        try:
+            return super()._call(call, *words)
+        finally:
+            if self._raised:
+                raise self._raised.pop() from None
 
-    def settimeout(self, seconds):
-        """Has no effect, but for a ValueError if it is below 0."""
+    def fileno(self) -> int:
+        """A descriptor for a loop that waits: it can be read once something has come, until a read finds no more."""
         self._opened()
-        neli._milliseconds(seconds)
+        return self._link.fileno()
 
-    def set_strict(self):
+    def set_strict(self) -> None:
         """Has no effect."""
         self._opened()
 
-    def stop(self):
-        """Has reads raise ECANCELED where nothing is left."""
-        self._opened()
-        self._is_stopped = True
-
     @property
-    def receive_buffer(self):
+    def receive_buffer(self) -> int:
         """A number that has no effect; a ValueError if it does not fit 31 bits."""
         self._opened()
         return self._receive_buffer
 
     @receive_buffer.setter
-    def receive_buffer(self, size):
+    def receive_buffer(self, size: int) -> None:
         neli._fit(31, receive_buffer=size)
         self._opened()
         self._receive_buffer = size
 
-    def request(self, msg_type, msg_flags=NLM_F_ACK, body=b""):
-        """Sends a request, which `serve` answers, and returns its Reply; refused as that of a NetlinkSocket."""
-        neli._fit(16, msg_type=msg_type, msg_flags=msg_flags)
-        body = neli._bytes("body", body)
-        reply, sent = self._call(self._send, msg_type, msg_flags, body)
-        is_dump = self._is_dump(msg_type, msg_flags, body)
-        for request in requests(sent, self._port):
-            for datagram in neli._items("what serve returns", self._serve(request), "a list of datagrams"):
-                datagram = neli._bytes("each datagram of serve", datagram)
-                self.deliver(_as_parts(datagram, request.sequence_number) if is_dump else datagram)
-        return reply
-
-    def request_all(self, requests):
-        """As one `request` after the other. A NetlinkError of the status KIND if two are dumps; then none is sent."""
-        requests = neli._requests(requests)
-        self._opened()
-        if sum(self._is_dump(*it) for it in requests) > 1:
-            raise self._error(KIND)
-        return [self.request(*it) for it in requests]
-
-    def _is_dump(self, msg_type, msg_flags, body):
-        """Whether a kernel answers it by a dump."""
-        return _lib.neli_c_answering(self.family, msg_type, msg_flags, len(body)) == ANSWERING_DUMP
-
-    def _send(self, msg_type, msg_flags, body):
-        sent, out = _Sent(), ctypes.create_string_buffer(len(body) + 32)
-        self._well(_lib.neli_c_router_send(self._opened(), msg_type, msg_flags, body, len(body), out, len(out),
-                                           ctypes.byref(sent)))
-        self._faults[sent.handle] = 0
-        return neli.Reply(self, sent.handle), out.raw[: sent.length]
-
-    def deliver(self, datagram, group=0):
+    def deliver(self, datagram: neli._Bytes, group: int = 0) -> None:
         """Has a datagram come to a group, as `notification` makes one; or to the port, where it is 0.
 
-        A NetlinkError if memory runs out; a ValueError if the group does not fit 32 bits.
+        A ValueError if the group does not fit 32 bits.
         """
         neli._fit(32, group=group)
-        self._call(self._take_in, neli._bytes("datagram", datagram), ctypes.c_uint32(group))
+        datagram = neli._bytes("datagram", datagram)
+        self._opened()
+        self._link.arrive(datagram, group)
 
-    def _take_in(self, datagram, group):
-        self._well(_lib.neli_c_router_datagram(self._opened(), datagram, len(datagram), ctypes.byref(group), 1))
-        walk, read = neli._Walk(0, len(datagram)), neli._Message()
-        while group.value and _lib.neli_c_next_message(
-                datagram, len(datagram), ctypes.byref(walk), ctypes.byref(read)) == ITEM:
-            self._came += 1
-
-    def fault(self, number):
+    def fault(self, number: int) -> None:
         """Has a fault of the socket come, by its number in errno.h, as ENOBUFS where messages are lost.
 
         Each open request ends with it, and `get` raises it once, behind the messages that came before. A ValueError if
-        it is not above 0, does not fit 31 bits, or is EAGAIN, which loses nothing; a NetlinkError if memory runs out.
+        it is not above 0, does not fit 31 bits, or is EAGAIN or EINTR, which lose nothing.
         """
-        neli._fit(31, number=number)
-        if number in (0, errno.EAGAIN):
-            raise ValueError(f"number: {number} is no fault")
-        self._call(self._lose, number)
+        _check_fault("number", number)
+        self._opened()
+        self._link.add(number)
 
-    def _lose(self, number):
-        self._well(_lib.neli_c_router_fault(self._opened(), number))
-        self._faults = {handle: fault or number for handle, fault in self._faults.items()}
-        self._losses = [it for it in self._losses if it[0] < self._came] + [(self._came, number)]
+    def script(self, steps: Iterable[int | str]) -> None:
+        """What comes of the next datagrams, those of `serve` and of `deliver`, a step for each. Later ones arrive.
 
-    def _fault_for_groups(self):
-        """Whether a fault is next for groups, which is then `_fault`."""
-        if not self._losses or self._losses[0][0] > self._heard:
-            return False
-        self._fault = self._losses.pop(0)[1]
-        return True
+        A step is "arrives"; "lost"; "repeated", where it arrives twice; "interrupted", where its messages have
+        NLM_F_DUMP_INTR; or a number of errno.h, as ENOBUFS: it is lost, and that fault comes in its place. The script
+        replaces an earlier one, and ends where the socket is bound again. A ValueError if a step is none of these.
+        """
+        steps = list(neli._items("steps", steps, "a list of steps"))
+        for it in steps:
+            if not isinstance(it, str):
+                _check_fault("each of steps", it)
+            elif it not in ("arrives", "lost", "repeated", "interrupted"):
+                raise ValueError(f"each of steps: {it!r} is none")
+        self._opened()
+        self._link.script = collections.deque(steps)
 
-    def _listen(self, item):
-        """The next message for groups; their faults are in `_losses`, each in its place."""
-        code = LINK
-        while code in (LINK, OVERRUN):
-            code = _lib.neli_c_router_listen(self._opened(), ctypes.byref(item))
-        self._heard += code not in (WAITS, MEMORY, HANDLE)
-        return code
 
-    def _drop(self):
-        self._losses.clear()
-        code = ITEM
-        while code != WAITS:
-            code, _ = self._next(MULTICAST)
-            if code in (MEMORY, HANDLE):
-                raise self._error(code)
-        if self._is_stopped:
-            raise self._error(WAITS)
-
-    def _verdict(self, handle, said):
-        return _lib.neli_c_router_verdict(self._opened(), handle, said)
-
-    def _close_request(self, handle):
-        self._faults.pop(handle, None)
-        _lib.neli_c_router_give_up(self._opened(), handle)
-
-    def _lend_into(self, handle, lent):
-        """An error message to groups is an item as any other."""
-        if handle == MULTICAST and self._fault_for_groups():
-            return LINK
-        lent.bytes, self._fault = ctypes.addressof(_NO_BYTES), self._faults.get(handle, 0)
-        code = _lib.neli_c_router_lend(self._opened(), handle, ctypes.byref(lent))
-        return ITEM if handle == MULTICAST and code == KERNEL_ERROR else code
-
-    def _pass(self, handle):
-        """Goes on; with multicast as a listener, whom no error ends."""
-        if handle == MULTICAST:
-            self._listen(_Item())
-        else:
-            _lib.neli_c_router_pass(self._at, handle)
-
-    def _next(self, handle):
-        item, read, self._said, self._fault = _Item(), neli._Message(), None, self._faults.get(handle, 0)
-        if handle != MULTICAST:
-            code = _lib.neli_c_router_read(self._opened(), handle, ctypes.byref(item))
-        else:
-            code = LINK if self._fault_for_groups() else self._listen(item)
-        if code in (ITEM, KERNEL_ERROR):
-            data = _made(_lib.neli_c_router_item, self._at)
-            _lib.neli_c_next_message(data, len(data), ctypes.byref(neli._Walk(0, len(data))), ctypes.byref(read))
-            self._said = neli.Message(data, read, self.family)
-        return code, self._said
-
-    def _error(self, code, number=0):
-        attributes = []
-        if code == LINK:
-            number = number or self._fault
-        elif code == WAITS:
-            code, number = LINK, errno.ECANCELED if self._is_stopped else errno.EAGAIN
-        if code == KERNEL_ERROR and self._said:
-            answered, attributes = neli._answer_of(self._said)
-            number = -answered
-        return neli.NetlinkError(number, os.strerror(number) if number else neli._text_of(code), code, attributes)
+def _check_fault(name, number):
+    neli._fit(31, **{name: number})
+    if number in (0, errno.EAGAIN, errno.EINTR):
+        raise ValueError(f"{name}: {number} is no fault")

@@ -10,9 +10,12 @@ with the library; a dictionary is `json.loads` of that (docs/SHOW.md).
             print(schema.values(link)["IFLA_IFNAME"], schema.to_dict(link)["attributes"])
 """
 
+from __future__ import annotations
+
 import ctypes
 import json
 import os
+from typing import Any, Iterator
 
 import neli
 from neli import ITEM, KIND, OK, ROOM
@@ -69,7 +72,7 @@ _lib = _library()
 class TableError(ValueError):
     """A text is no table: `line` is the number of the first line that is bad, and `reason` says why."""
 
-    def __init__(self, line, reason):
+    def __init__(self, line: int, reason: str):
         super().__init__(f"line {line}: {reason}")
         self.line, self.reason = line, reason
 
@@ -107,28 +110,29 @@ class Schema:
     table. Once it is closed, and if memory runs out, a call raises a NetlinkError, whose `status` is a code of neli.h.
     """
 
-    def __init__(self, *texts, built_in=True):
-        self._tables, self._texts = _Tables(), []
+    def __init__(self, *texts: str | neli._Bytes, built_in: bool = True):
+        self._tables = _Tables()
+        self._texts: list[bytes] = []
         opened = _lib.neli_c_tables_built_in if built_in else _lib.neli_c_tables_new
         _done(opened(ctypes.byref(self._tables)))
         for text in texts:
             self.add(text)
 
-    def close(self):
+    def close(self) -> None:
         """Frees the tables; it may be closed again."""
         _lib.neli_c_tables_free(ctypes.byref(self._tables))
 
-    def __enter__(self):
+    def __enter__(self) -> Schema:
         return self
 
-    def __exit__(self, *_):
+    def __exit__(self, *_: object) -> None:
         self.close()
 
     def __del__(self):
         if hasattr(self, "_tables"):
             self.close()
 
-    def add(self, text):
+    def add(self, text: str | neli._Bytes) -> None:
         """Adds the table of a family behind the others; a TableError if it is none."""
         text = os.fsencode(text) if isinstance(text, str) else neli._bytes("text", text, "a text or bytes")
         self._texts.append(text)  # the library reads it in place
@@ -139,7 +143,7 @@ class Schema:
             raise TableError(line.value, reason)
         _done(code)
 
-    def learn(self, number, name):
+    def learn(self, number: int, name: str | bytes) -> None:
         """Learns that the family of generic netlink with this name has this number; a ValueError past 16 bits."""
         neli._fit(16, number=number)
         name = _encoded("name", name)
@@ -152,27 +156,27 @@ class Schema:
         data, protocol = message._data, message.family or 0
         return ctypes.byref(self._tables), protocol, data, len(data), ctypes.byref(message._read)
 
-    def learn_from(self, message):
+    def learn_from(self, message: neli.Message) -> None:
         """Learns the number of the family that a message of the controller names; of any other nothing."""
         _done(_lib.neli_c_tables_learn_from(*self._words(message)))
 
-    def to_json(self, message):
+    def to_json(self, message: neli.Message) -> str:
         """A message as one object of JSON, as `neli_show json` prints it."""
         code, text = _written(_lib.neli_c_message_json, *self._words(message))
         _done(code)
         return text
 
-    def to_dict(self, message):
+    def to_dict(self, message: neli.Message) -> dict[str, Any]:
         """A message as a dictionary."""
         return json.loads(self.to_json(message))
 
-    def to_text(self, message):
+    def to_text(self, message: neli.Message) -> str:
         """A message as lines of text."""
         code, text = _written(_lib.neli_c_message_text, *self._words(message))
         _done(code)
         return text
 
-    def datagram_json(self, data, family=neli.NETLINK_ROUTE):
+    def datagram_json(self, data: neli._Bytes, family: int = neli.NETLINK_ROUTE) -> str:
         """The messages of a datagram as lines of JSON, and one more for the fault behind them, if there is one."""
         data = neli._bytes("data", data)
         neli._fit(16, family=family)
@@ -181,11 +185,11 @@ class Schema:
         _done(code)
         return text
 
-    def dicts(self, data, family=neli.NETLINK_ROUTE):
+    def dicts(self, data: neli._Bytes, family: int = neli.NETLINK_ROUTE) -> list[dict[str, Any]]:
         """The same as dictionaries."""
         return [json.loads(it) for it in self.datagram_json(data, family).split("\n") if it]
 
-    def items(self, message):
+    def items(self, message: neli.Message) -> Iterator[tuple[str, int, bytes, Any]]:
         """The attributes of a message by name, those in nests behind the nest: `(path, kind, payload, value)` of each.
 
         A path has dots between the names, and `value` is what JSON has of the attribute. Without a table for the
@@ -209,22 +213,22 @@ class Schema:
             path = _part(text, named.path, named.path_length)
             yield path, named.kind, payload, json.loads(_part(text, named.value, named.value_length))
 
-    def values(self, message):
+    def values(self, message: neli.Message) -> dict[str, Any]:
         """The values of a message's attributes by their paths, nests left out; the first of several with one path."""
-        found = {}
+        found: dict[str, Any] = {}
         for path, kind, _, value in self.items(message):
             if kind not in (KIND_NEST, KIND_HOPS, KIND_HOP, KIND_REST):
                 found.setdefault(path, value)
         return found
 
-    def check(self, message):
+    def check(self, message: neli.Message) -> str | None:
         """What is wrong with the first attribute that is not as its row says, in words; None if all are."""
         code, text = _written(_lib.neli_c_check, *self._words(message))
         if code not in (OK, VIOLATION):
             _done(code)
         return text if code == VIOLATION else None
 
-    def path_at(self, message, offset):
+    def path_at(self, message: neli.Message, offset: int) -> str | None:
         """The path to the attribute at an offset of a message, or None."""
         neli._fit(64, offset=offset)
         code, path = _written(_lib.neli_c_path_at, *self._words(message), offset)
@@ -232,7 +236,7 @@ class Schema:
             _done(code)
         return path if code == ITEM else None
 
-    def refusal(self, message, code, text="", offset=0):
+    def refusal(self, message: neli.Message, code: int, text: str | bytes | None = "", offset: int | None = 0) -> str:
         """The kernel's refusal of a request in a line, which names the attribute; `code` is below 0.
 
         `text` and `offset` are those of a NetlinkError, which may be None. A ValueError if `code` does not fit 32 bits.
