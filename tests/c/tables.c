@@ -135,6 +135,82 @@ static void check_rooms(void) {
     CHECK(items_there == item_count && text_there == text_size);
 }
 
+/* ---- Bytes behind the attributes of a list */
+
+/* A link of linux/if_link.h: IFLA_LINKINFO (18) with IFLA_INFO_KIND (1) and IFLA_INFO_DATA (2), in which is
+ * IFLA_VLAN_ID (1). Behind the attributes of each of the three lists stand bytes that are none, in the message's own
+ * those of an IFLA_IFNAME (3) that states 12 bytes and has 6. Comments have the place at which a line begins. */
+static const uint8_t link_with_rests[] = {
+    82, 0, 0, 0, NEWLINK, 0, 0, 0, 9, 0, 0, 0, 0, 0, 0, 0, /* a header of 16 bytes */
+    0, 0, 0, 0, 7, 0, 0, 0, 0, 0, 0, 0, 0, 0, 0, 0, /* struct ifinfomsg */
+    34, 0, 18, 0, /* 32 */
+    9, 0, 1, 0, 'v', 'l', 'a', 'n', 0, 0, 0, 0, /* 36 */
+    15, 0, 2, 0, /* 48 */
+    6, 0, 1, 0, 5, 0, 0, 0, /* 52 */
+    12, 0, 5, 0, /* 60: 3 bytes and a zero of padding */
+    0xaa, 0xbb, 0, 0, /* 64: 2 bytes and padding */
+    8, 0, 4, 0, 0xdc, 5, 0, 0, /* 68 */
+    12, 0, 3, 0, 'x', 'y', 0, 0, /* 76: 6 bytes, and 2 past the message */
+};
+
+/* A route of linux/rtnetlink.h: RTA_MULTIPATH (9) with a hop (struct rtnexthop: its length, flags, a weight and a link)
+ * in which is RTA_GATEWAY (5), and bytes behind that and behind the hop. */
+static const uint8_t route_with_rests[] = {
+    56, 0, 0, 0, 24, 0, 0, 0, 9, 0, 0, 0, 0, 0, 0, 0, /* RTM_NEWROUTE */
+    2, 0, 0, 0, 254, 4, 0, 1, 0, 0, 0, 0, /* struct rtmsg: AF_INET */
+    27, 0, 9, 0, /* 28 */
+    17, 0, 0, 0, 3, 0, 0, 0, /* 32 */
+    8, 0, 5, 0, 192, 0, 2, 1, /* 40 */
+    0xff, 0, 0, 0, /* 48: 1 byte and padding */
+    5, 0, 0, 0, /* 52: 3 bytes and padding */
+};
+
+struct wanted_item {
+    const char *path, *value; /* no value: that of a list, which is not looked at */
+    uint16_t number;
+    uint8_t kind, depth;
+    size_t payload, payload_length;
+};
+
+/* The first message of these bytes has these items. */
+static void want_items(const uint8_t *sent, size_t sent_length, const struct wanted_item *wanted, size_t count) {
+    struct neli_walk walk = {0, sent_length};
+    struct neli_message one;
+    CHECK(neli_next_message(sent, sent_length, &walk, &one) == NELI_ITEM);
+    CHECK(read_items(&tables, 0, sent, sent_length, &one) == NELI_OK && item_count == count);
+    for (size_t i = 0; i < item_count && i < count; i++) {
+        const struct neli_named *it = &items[i];
+        CHECK(has_path(i, wanted[i].path));
+        CHECK(it->number == wanted[i].number && it->kind == wanted[i].kind && it->depth == wanted[i].depth);
+        CHECK(it->payload == wanted[i].payload && it->payload_length == wanted[i].payload_length);
+        CHECK(wanted[i].value == NULL || is_text(wanted[i].value, texts + it->value, it->value_length));
+    }
+}
+
+/* Bytes that are no attribute have the path of the list behind whose attributes they stand; that of a message's own is
+ * `body` (docs/TABLES.md). What comes behind the list stands where it would without them. */
+static void check_rests(void) {
+    static const struct wanted_item of_link[] = {
+        {"IFLA_LINKINFO", NULL, LINKINFO, NELI_KIND_NEST, 1, 36, 30},
+        {"IFLA_LINKINFO.IFLA_INFO_KIND", "\"vlan\"", 1, NELI_KIND_TEXT, 2, 40, 5},
+        {"IFLA_LINKINFO.IFLA_INFO_DATA", NULL, 2, NELI_KIND_NEST, 2, 52, 11},
+        {"IFLA_LINKINFO.IFLA_INFO_DATA.IFLA_VLAN_ID", "5", 1, NELI_KIND_U16, 3, 56, 2},
+        {"IFLA_LINKINFO.IFLA_INFO_DATA", "{\"bytes\":\"0c0005\"}", 0, NELI_KIND_REST, 3, 60, 3},
+        {"IFLA_LINKINFO", "{\"bytes\":\"aabb\"}", 0, NELI_KIND_REST, 2, 64, 2},
+        {"IFLA_MTU", "1500", MTU, NELI_KIND_U32, 1, 72, 4},
+        {"body", "{\"bytes\":\"0c0003007879\"}", 0, NELI_KIND_REST, 1, 76, 6},
+    };
+    static const struct wanted_item of_route[] = {
+        {"RTA_MULTIPATH", NULL, 9, NELI_KIND_HOPS, 1, 32, 23},
+        {"RTA_MULTIPATH.hop", NULL, 0, NELI_KIND_HOP, 2, 32, 17},
+        {"RTA_MULTIPATH.hop.RTA_GATEWAY", "\"192.0.2.1\"", 5, NELI_KIND_ADDRESS, 3, 44, 4},
+        {"RTA_MULTIPATH.hop", "{\"bytes\":\"ff\"}", 0, NELI_KIND_REST, 3, 48, 1},
+        {"RTA_MULTIPATH", "{\"bytes\":\"050000\"}", 0, NELI_KIND_REST, 2, 52, 3},
+    };
+    want_items(link_with_rests, sizeof link_with_rests, of_link, sizeof of_link / sizeof *of_link);
+    want_items(route_with_rests, sizeof route_with_rests, of_route, sizeof of_route / sizeof *of_route);
+}
+
 /* ---- A long message */
 
 enum { LONGEST = 10000 };
@@ -359,6 +435,7 @@ int main(void) {
     read_first();
     check_walk();
     check_rooms();
+    check_rests();
     check_time();
     check_texts();
     check_offsets();

@@ -5,7 +5,9 @@
 //! - [`messages`]: messages, owned and lent. [`router`]: the router and the resolvers, over each store.
 //! - [`session`]: a session: its requests, its readers and their verdicts.
 //! - [`simulator`]: a kernel's answers. [`schema`]: messages by the tables of their families. [`programs`]: whole
-//!   programs. [`pages`]: examples of docs/. [`doors`]: what the exports of `neli_c` stand on. [`trial`]: what is changed at random.
+//!   programs. [`pages`]: examples of docs/. [`doors`]: what the exports of `neli_c` stand on. [`trial`]: what is changed
+//!   at random.
+//! - [`refused_writes`]: what each type prints by `Display`, also where a write is refused.
 #![tactic(auto)]
 
 #[cfg(test)]
@@ -22,6 +24,8 @@ mod pages;
 mod payloads;
 #[cfg(test)]
 mod programs;
+#[cfg(test)]
+mod refused_writes;
 #[cfg(test)]
 mod router;
 #[cfg(test)]

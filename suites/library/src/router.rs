@@ -18,8 +18,8 @@
 //! - [`random`]: scripts that a generator makes, over both stores. [`entries`]: what the log keeps.
 //! - [`out_of_memory`]: each allocation of a run refused in turn. [`limited`]: a store with a limit.
 //! - [`lent_reads`]: lent reads beside owned ones.
-//! - [`verdicts`]: verdicts on answers, requests that are given up, and listening that continues. [`short`]: the short
-//!   calls.
+//! - [`verdicts`]: verdicts on answers, requests that are given up, and listening that continues. [`given_up`]: when
+//!   the numbers of requests that are given up are free, and hundreds of them. [`short`]: the short calls.
 //! - [`laws`]: the laws of runs, called. [`support`]: shared parts of the tests.
 
 mod answers;
@@ -28,6 +28,7 @@ mod conversations;
 mod datagrams;
 mod entries;
 mod faults;
+mod given_up;
 mod handles;
 mod laws;
 mod lent_reads;

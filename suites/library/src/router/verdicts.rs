@@ -24,14 +24,14 @@ use std::alloc::Global;
 use std::io::ErrorKind;
 use std::process::Abort;
 
-type Handle = NlRouterReceiverHandle<u16, Buffer>;
+pub type Handle = NlRouterReceiverHandle<u16, Buffer>;
 
-type Item = Result<Nlmsghdr<u16, Buffer>, RouterError<u16, Buffer>>;
+pub type Item = Result<Nlmsghdr<u16, Buffer>, RouterError<u16, Buffer>>;
 
 /// A part of a dump with number 0 and port 7, and the same with the marks.
 pub const PART: &str = "10000000100002000000000007000000";
 
-const TWO_PARTS: &str = "10000000100002000000000007000000\
+pub const TWO_PARTS: &str = "10000000100002000000000007000000\
     10000000100002000000000007000000";
 
 const MARKED: &str = "10000000100012000000000007000000";
@@ -43,14 +43,16 @@ pub const END: &str = "1400000003000200000000000700000000000000";
 
 const MARKED_END: &str = "1400000003001200000000000700000000000000";
 
-const FAILED_END: &str = "14000000030002000000000007000000edffffff";
+pub const FAILED_END: &str = "14000000030002000000000007000000edffffff";
 
 /// The error -1 to a request of type 16 with number 0; an acknowledgement of it, and one of that with number 1.
-const REFUSED: &str = "24000000020000000000000007000000ffffffff10000000100005030000000007000000";
+pub const REFUSED: &str =
+    "24000000020000000000000007000000ffffffff10000000100005030000000007000000";
 
-const ACK: &str = "240000000200000100000000070000000000000014000000100005000000000007000000";
+pub const ACK: &str = "240000000200000100000000070000000000000014000000100005000000000007000000";
 
-const ACK_OF_1: &str = "240000000200000101000000070000000000000014000000100005000100000007000000";
+pub const ACK_OF_1: &str =
+    "240000000200000101000000070000000000000014000000100005000100000007000000";
 
 /// The same end without MULTI.
 const PLAIN_END: &str = "1400000003000000000000000700000000000000";
@@ -176,7 +178,7 @@ pub fn come<D: Deliveries>(rt: &impl Abort, alloc: Global, router: &mut NlRouter
 }
 
 /// Reads a handle until it waits or ends, and keeps what it is given.
-fn read<D: Deliveries>(
+pub fn read<D: Deliveries>(
     rt: &impl Abort,
     alloc: Global,
     router: &mut NlRouter<D>,

@@ -13,7 +13,8 @@ const NEIGHBOUR: &str =
     f40300009a413db900000000";
 
 /// The request of that recording: `RTM_GETNEIGH` with a body of zeros, by `linux/netlink.h` and `linux/neighbour.h`.
-const REQUEST: &[u8] = b"\x1c\0\0\0\x1e\0\x01\x03\xf4\x03\0\0\x9a\x41\x3d\xb9\0\0\0\0\0\0\0\0\0\0\0\0";
+const REQUEST: &[u8] =
+    b"\x1c\0\0\0\x1e\0\x01\x03\xf4\x03\0\0\x9a\x41\x3d\xb9\0\0\0\0\0\0\0\0\0\0\0\0";
 
 /// Why the dump was not read.
 #[derive(Clone, Copy, Debug)]

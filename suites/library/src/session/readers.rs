@@ -4,7 +4,8 @@
 
 use super::script::Script;
 use super::script::Step::{
-    Answer, Came, CameFor, CloseMulticast, Fault, Goes, Heard, Queued, Quiet, Sent, Stands, Unasked, Went,
+    Answer, Came, CameFor, CloseMulticast, Fault, Goes, Heard, Queued, Quiet, Sent, Stands,
+    Unasked, Went,
 };
 use super::script::Told::{Closed, End, Lost, Message, Waits};
 use neli::consts::socket::NlFamily;

@@ -2,8 +2,8 @@
 
 use super::script::Script;
 use super::script::Step::{
-    All, Answer, Came, Close, Failed, Fault, Goes, Heard, InUse, Queued, Quiet, Refused, Sent, Stands,
-    Unasked, Went,
+    All, Answer, Came, Close, Failed, Fault, Goes, Heard, InUse, Queued, Quiet, Refused, Sent,
+    Stands, Unasked, Went,
 };
 use super::script::Told::{Closed, End, Lost, Message, Waits};
 use neli::consts::socket::NlFamily::Route;
@@ -11,7 +11,9 @@ use neli::session::{Loss, SendError, Verdict};
 
 /// The ends of the dumps with the numbers 0 and 1, and the acknowledgement of request 2.
 const DONE_0: &str = "1400000003000200000000000700000000000000";
+
 const DONE_1: &str = "1400000003000200010000000700000000000000";
+
 const ACK_2: &str = "240000000200000102000000070000000000000010000000100005000200000007000000";
 
 /// The answer to the request with number 2 for one message.
@@ -181,8 +183,11 @@ pub const SCRIPTS: [Script; 11] = [
         "several requests in one datagram",
         7,
         &[
-            All("10000000100005000200000007000000\
-                    10000000120001000300000007000000", Ok(())),
+            All(
+                "10000000100005000200000007000000\
+                    10000000120001000300000007000000",
+                Ok(()),
+            ),
             InUse(2, true),
             InUse(3, true),
             Goes(Some(2)),
@@ -201,7 +206,10 @@ pub const SCRIPTS: [Script; 11] = [
         &[
             Sent(2, Route, 16, 5, 16),
             All("", Err(SendError::Unreadable)),
-            All("0f000000100005000200000007000000", Err(SendError::Unreadable)),
+            All(
+                "0f000000100005000200000007000000",
+                Err(SendError::Unreadable),
+            ),
             All(
                 "10000000100005000100000007000000\
                     10000000100005000200000007000000",
