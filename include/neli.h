@@ -864,7 +864,8 @@ static inline int32_t neli_session_quiet(struct neli_session *session) {
 }
 
 /* Lends the next item of a reader, where the session keeps it; `number` is that of a request, and else not read. It
- * returns NELI_ITEM; NELI_KERNEL_ERROR for an error message of a request with another code than 0, which is lent too;
+ * returns NELI_ITEM, for an acknowledgement and the end of a dump (NLMSG_DONE) too; NELI_KERNEL_ERROR for an error
+ * message of a request with another code than 0, which is lent too;
  * NELI_LINK for a loss, whose errno is in `lent`: the link failed, or did not send this request; NELI_SHORT for a loss
  * by a datagram that could not be read to its end; NELI_END at the end; NELI_WAITS; NELI_HANDLE if nobody reads here:
  * closed, or never in use. The item, a loss too, stays the next one until neli_session_pass. There are bytes at the

@@ -121,7 +121,8 @@ int32_t neli_host_send_all(struct neli_host *host, const struct neli_host_reques
                            size_t *handles);
 
 /* Reads the next item of a handle, and may wait for datagrams.
- *   NELI_ITEM           a message, the header of the bytes at `neli_host_item`
+ *   NELI_ITEM           a message, the header of the bytes at `neli_host_item`; also an acknowledgement, and the end of a
+ *                       dump (NLMSG_DONE)
  *   NELI_KERNEL_ERROR   of a request: the kernel's error, which is such a message too, and ends the answer
  *   NELI_END            of a request: its answer has ended, or the socket was seen empty, so that nothing more comes
  *   NELI_LINK           something was lost here, by the fault of the socket that `neli_host_fault` returns, as ENOBUFS
@@ -142,7 +143,7 @@ int32_t neli_host_lend(struct neli_host *host, size_t handle, struct neli_lent *
  * of reads may take turns. NELI_HANDLE if the handle is not open, or is NELI_HOST_UNASKED. */
 int32_t neli_host_pass(struct neli_host *host, size_t handle);
 
-/* Whether a read of a handle returns at once; it looks at no socket. A loop over poll(2) sets a wait of 0, sends, reads
+/* Whether a read of a handle returns at once, as after `neli_host_stop` too; it looks at no socket. A loop over poll(2) sets a wait of 0, sends, reads
  * each handle until the wait has ended (EAGAIN), and sleeps only if none is ready: what one read took in may be another
  * handle's. */
 bool neli_host_is_ready(struct neli_host *host, size_t handle);
@@ -196,7 +197,7 @@ int32_t neli_host_resync(struct neli_host *host, const struct neli_dump *dump, s
 /* The same of several lists, as those of links, addresses and routes: what came for groups is dropped, and then each
  * list is requested. If one may be complete when it is requested again, and its `times` allow it, all of this is done
  * again. Its codes are those of the list that was requested last; the later ones are as they were. Without a list it
- * drops what came. */
+ * drops what came. It needs a wait above 0. NELI_NULL also if a list has no `take`. */
 int32_t neli_host_resync_all(struct neli_host *host, const struct neli_dump *dumps, size_t count,
                              struct neli_message *last);
 

@@ -242,7 +242,8 @@ int32_t neli_host_pass(struct neli_host *host, size_t handle) {
 
 bool neli_host_is_ready(struct neli_host *host, size_t handle) {
     struct neli_lent lent;
-    return host != NULL && (is_held(host) || look(host, handle, &lent) != NELI_WAITS);
+    if (host == NULL) return false;
+    return is_held(host) || link_is_stopped(&host->link) || look(host, handle, &lent) != NELI_WAITS;
 }
 
 int32_t neli_host_verdict(struct neli_host *host, size_t handle, struct neli_verdict *verdict) {

@@ -194,10 +194,14 @@ static int left_until(int64_t end) {
     return left < 0 ? 0 : (int)left;
 }
 
-int32_t link_goes_on(struct link *link, int64_t end) {
+bool link_is_stopped(const struct link *link) {
     struct pollfd stop = {.fd = link->stop, .events = POLLIN};
+    return poll(&stop, 1, 0) > 0;
+}
+
+int32_t link_goes_on(struct link *link, int64_t end) {
     if (link->wait > 0 && is_past(end)) errno = EAGAIN;
-    else if (poll(&stop, 1, 0) > 0) errno = ECANCELED;
+    else if (link_is_stopped(link)) errno = ECANCELED;
     else return NELI_OK;
     return failed(link);
 }

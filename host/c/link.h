@@ -50,6 +50,9 @@ int32_t link_wait(struct link *link, int64_t end);
  * no time goes on until none is left. */
 int32_t link_goes_on(struct link *link, int64_t end);
 
+/* Whether all waits were ended. */
+bool link_is_stopped(const struct link *link);
+
 /* Ends every current wait, and each later one. Any thread may call it, and a signal's handler. */
 void link_stop(const struct link *link);
 

@@ -164,6 +164,7 @@ static void a_client_of_a_simulator(void) {
     neli_host_stop(host);
     int waited = kernel.waited;
     WANT(is_over(host, neli_host_next(host, NELI_MULTICAST, &message), ECANCELED) && kernel.waited == waited);
+    WANT(neli_host_is_ready(host, NELI_MULTICAST));
     neli_host_close(host);
 }
 
