@@ -857,7 +857,8 @@ static inline int32_t neli_session_fault(struct neli_session *session, int32_t e
     return neli_c_session_fault(session, error_number);
 }
 
-/* The link was seen empty, as by EAGAIN of a read: whatever was sent before gets nothing more. */
+/* The link was seen empty, as by EAGAIN of a read: whatever was sent before gets nothing more, in the protocols that
+ * Linux answers while a request is sent: routing, generic netlink, netfilter, sock_diag, IPsec and the connector. */
 static inline int32_t neli_session_quiet(struct neli_session *session) {
     if (session == NULL) return NELI_NULL;
     return neli_c_session_quiet(session);

@@ -534,8 +534,8 @@ def nla(number: int, value: _Bytes | str | Sequence[_Bytes], nested: bool = Fals
 class Verdict:
     """The verdict on an answer: `is_complete`; if it is not, `code` of neli.h is the reason."""
 
-    def __init__(self, code, said, is_filtered):
-        self.code, self.error, self.is_filtered = code, said.error, is_filtered
+    def __init__(self, code, said):
+        self.code, self.error, self.is_filtered = code, said.error, bool(said.filtered)
 
     is_complete = property(lambda self: self.code == OK)
     is_pending = property(lambda self: self.code == WAITS)
@@ -557,7 +557,7 @@ class Reply:
 
     def __init__(self, sock, handle):
         self._sock, self._last, self._dropped = sock, None, sock._dropped
-        self._handle, self._is_filtered = handle, False
+        self._handle = handle
 
     def __del__(self):
         # Perhaps during a call, or in another thread.
@@ -633,7 +633,6 @@ class Reply:
         """Reads an item: the message that is given, or None. Raises what comes in its place, and closes at the end."""
         code, message = read(self._opened())
         if code == ITEM:
-            self._is_filtered = self._is_filtered or bool(message.flags & NLM_F_DUMP_FILTERED)
             return message if message.type not in (NLMSG_ERROR, NLMSG_DONE) else None
         if code == END:
             self._give_up()
@@ -650,7 +649,7 @@ class Reply:
 
     def _look(self):
         said = _Verdict()
-        self._last = Verdict(self._sock._verdict(self._opened(), ctypes.byref(said)), said, self._is_filtered)
+        self._last = Verdict(self._sock._verdict(self._opened(), ctypes.byref(said)), said)
 
     def _give_up(self):
         if self._is_open():

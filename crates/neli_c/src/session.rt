@@ -264,7 +264,7 @@ pub extern "C" fn neli_c_session_fault(alloc: Global, session: &mut NeliSession,
     code
 }
 
-/// Notes that the link was seen empty: nothing more comes for what was sent before. Returns `OK`.
+/// Notes that the link was seen empty, which ends what was sent before, where the kernel answers at once. Returns `OK`.
 #[unsafe(no_mangle)]
 pub extern "C" fn neli_c_session_quiet(alloc: Global, session: &mut NeliSession) -> i32
     ensures closed { session.old.place.value ≡ None
