@@ -499,8 +499,8 @@ const RECORDED: [(RoutingTable, &str, &[u8], &str, &str); 9] = [
     ),
 ];
 
-/// The structures at the front of the datagrams 0004, 0009 and 0005.
-const STRUCTURES: [(RoutingTable, &str, &[u8], &str); 3] = [
+/// The structures at the front of the datagrams 0004, 0009 and 0005; and of a route of which `ip` says `onlink linkdown`.
+const STRUCTURES: [(RoutingTable, &str, &[u8], &str); 4] = [
     (
         RoutingTable::RtAddr,
         "ifaddrmsg",
@@ -520,6 +520,13 @@ const STRUCTURES: [(RoutingTable, &str, &[u8], &str); 3] = [
         b"\x02\x08\0\0\xff\x02\xfe\x02\0\0\0\0",
         " rtm_family 2 rtm_dst_len 8 rtm_src_len 0 rtm_tos 0 rtm_table local rtm_protocol kernel \
         rtm_scope host rtm_type local rtm_flags 0",
+    ),
+    (
+        RoutingTable::RtRoute,
+        "rtmsg",
+        b"\x02\0\0\0\xfe\x03\0\x01\x14\0\0\0",
+        " rtm_family 2 rtm_dst_len 0 rtm_src_len 0 rtm_tos 0 rtm_table main rtm_protocol boot \
+        rtm_scope universe rtm_type unicast rtm_flags onlink|linkdown",
     ),
 ];
 

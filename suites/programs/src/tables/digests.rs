@@ -12,7 +12,7 @@ pub const ROUTING: [(&str, &str, usize); 14] = [
     ("rt_nsid", "02a6a064d1f90dd691bee93d1650d4d3", 13),
     ("rt_prefix", "1502f2e2d0616e03f197be491e86b328", 18),
     ("rt_report", "d130d451eb4d085c621fdc30470a24ce", 28),
-    ("rt_route", "a68c9b37716e9f03be3341460bffaa72", 391),
+    ("rt_route", "3ecdee559a1d1deded64ca2417105a9a", 398),
     ("rt_rule", "6c919b02c81537e297b7d61a985b3764", 100),
     ("rt_tunnel", "c36979226861819dbc2dcec3823361df", 29),
     ("tc", "c6288ef45a19ef1eeda7bc1fe109fe70", 1408),
