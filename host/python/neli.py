@@ -60,8 +60,9 @@ NESTED = 0x8000
 # The attributes of an extended acknowledgement, NELI_ANSWER_..
 ANSWER_TEXT, ANSWER_OFFSET, ANSWER_MISSING, ANSWER_MISSING_NEST = 1, 2, 5, 6
 
-# The size of the header that attributes of a message of routing stand after, by its type.
-_HEADERS = {16: 16, 20: 8, 24: 12, 28: 12, 32: 12, 36: 20, 40: 20, 44: 20}
+# The size of the header that attributes of a message of routing stand after, by its type without its last two bits.
+_HEADERS = {16: 16, 20: 8, 24: 12, 28: 12, 32: 12, 36: 20, 40: 20, 44: 20, 48: 4, 52: 12, 56: 8, 60: 8, 64: 4, 72: 12,
+            76: 4, 80: 1, 84: 8, 88: 1, 92: 12, 96: 1, 100: 20, 104: 8, 108: 16, 112: 8, 116: 8, 120: 8}
 
 
 class _Walk(ctypes.Structure):
@@ -763,8 +764,8 @@ class NetlinkSocket:
     def receive_buffer(self) -> int:
         """How many bytes the kernel keeps for the socket (SO_RCVBUF); past that, messages are lost.
 
-        Linux doubles the number that is set, and takes no more than net.core.rmem_max. `bind` opens a socket with the
-        default. A ValueError if the number does not fit 31 bits.
+        Linux doubles the number that is set, and takes no more than net.core.rmem_max, but of a process with
+        CAP_NET_ADMIN any. `bind` opens a socket with the default. A ValueError if the number does not fit 31 bits.
         """
         with socket.socket(fileno=os.dup(self.fileno())) as options:
             return options.getsockopt(socket.SOL_SOCKET, socket.SO_RCVBUF)
@@ -773,7 +774,10 @@ class NetlinkSocket:
     def receive_buffer(self, size: int) -> None:
         _fit(31, receive_buffer=size)
         with socket.socket(fileno=os.dup(self.fileno())) as options:
-            options.setsockopt(socket.SOL_SOCKET, socket.SO_RCVBUF, size)
+            try:
+                options.setsockopt(socket.SOL_SOCKET, 33, size)  # SO_RCVBUFFORCE of asm-generic/socket.h
+            except PermissionError:
+                options.setsockopt(socket.SOL_SOCKET, socket.SO_RCVBUF, size)
 
     def set_strict(self) -> None:
         """Makes the kernel check all fields of a dump's request: only then can a dump list the objects of one link.
