@@ -20,6 +20,7 @@
 #include <stdbool.h>
 #include <stddef.h>
 #include <stdint.h>
+#include <string.h>
 
 #ifdef __cplusplus
 extern "C" {
@@ -533,8 +534,9 @@ static inline int32_t neli_text_length(const uint8_t *payload, size_t payload_le
 
 /* Stores the fields of a message of type 2 (an error or an acknowledgement) or of type 3 with the flag MULTI (2) and a
  * payload (the end of a dump); NELI_PLACE if its payload is past the bytes, NELI_KIND for another message, NELI_SHORT
- * if the payload is too short for it, NELI_LENGTH if the echoed request has a length below 16 or exceeds the payload.
- * `attributes` has the text and the offset. */
+ * if the payload is too short for it. NELI_LENGTH if an error without the flag NLM_F_CAPPED (0x100) echoes a request
+ * whose length is below 16 or exceeds the payload; of an acknowledgement, and with that flag, only the request's header
+ * is echoed, and its length may be any. `attributes` has the text and the offset. */
 static inline int32_t neli_get_answer(const uint8_t *bytes, size_t length, const struct neli_message *message,
                                       struct neli_answer *answer) {
     if (!neli_is_slice(bytes, length) || message == NULL || answer == NULL) return NELI_NULL;
@@ -567,6 +569,54 @@ static inline int32_t neli_put_attribute(uint8_t *out, size_t room, struct neli_
     if (!neli_is_slice(out, room) || writer == NULL || !neli_is_slice(payload, payload_length)) return NELI_NULL;
     return neli_c_put_attribute(neli_write_at(out), room, writer, type, neli_read_at((const uint8_t *)payload),
                                 payload_length);
+}
+
+/* Appends an attribute whose payload is a number, its lowest byte first, as kernel and machine have it, or (`be`) its
+ * highest first, in network order. */
+static inline int32_t neli_put_u8(uint8_t *out, size_t room, struct neli_writer *writer, uint16_t type,
+                                  uint8_t value) {
+    return neli_put_attribute(out, room, writer, type, &value, sizeof value);
+}
+
+static inline int32_t neli_put_u16(uint8_t *out, size_t room, struct neli_writer *writer, uint16_t type,
+                                   uint16_t value) {
+    return neli_put_attribute(out, room, writer, type, &value, sizeof value);
+}
+
+static inline int32_t neli_put_u32(uint8_t *out, size_t room, struct neli_writer *writer, uint16_t type,
+                                   uint32_t value) {
+    return neli_put_attribute(out, room, writer, type, &value, sizeof value);
+}
+
+static inline int32_t neli_put_u64(uint8_t *out, size_t room, struct neli_writer *writer, uint16_t type,
+                                   uint64_t value) {
+    return neli_put_attribute(out, room, writer, type, &value, sizeof value);
+}
+
+static inline int32_t neli_put_be16(uint8_t *out, size_t room, struct neli_writer *writer, uint16_t type,
+                                    uint16_t value) {
+    const uint8_t bytes[2] = {(uint8_t)(value >> 8), (uint8_t)value};
+    return neli_put_attribute(out, room, writer, type, bytes, sizeof bytes);
+}
+
+static inline int32_t neli_put_be32(uint8_t *out, size_t room, struct neli_writer *writer, uint16_t type,
+                                    uint32_t value) {
+    uint8_t bytes[4];
+    for (int i = 0; i < 4; i++) bytes[i] = (uint8_t)(value >> (24 - 8 * i));
+    return neli_put_attribute(out, room, writer, type, bytes, sizeof bytes);
+}
+
+static inline int32_t neli_put_be64(uint8_t *out, size_t room, struct neli_writer *writer, uint16_t type,
+                                    uint64_t value) {
+    uint8_t bytes[8];
+    for (int i = 0; i < 8; i++) bytes[i] = (uint8_t)(value >> (56 - 8 * i));
+    return neli_put_attribute(out, room, writer, type, bytes, sizeof bytes);
+}
+
+/* Appends an attribute that is a text, with its zero byte. */
+static inline int32_t neli_put_text(uint8_t *out, size_t room, struct neli_writer *writer, uint16_t type,
+                                    const char *text) {
+    return text != NULL ? neli_put_attribute(out, room, writer, type, text, strlen(text) + 1) : NELI_NULL;
 }
 
 /* Begins an attribute that lists attributes, and sets its flag NELI_NESTED; `nest` is its place. */

@@ -58,7 +58,7 @@ void put_attribute(struct body *body, uint16_t type, const void *payload, size_t
 }
 
 void put_text(struct body *body, uint16_t type, const char *text) {
-    put_attribute(body, type, text, strlen(text) + 1);
+    written(neli_put_text(body->bytes, sizeof body->bytes, &body->writer, type, text));
 }
 
 size_t begin_nest(struct body *body, uint16_t type) {

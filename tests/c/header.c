@@ -85,6 +85,31 @@ static void check_writing_and_reading(void) {
     CHECK(neli_get_u32(out + attribute.payload, attribute.payload_length, 0, &number) == NELI_OK && number == 1500);
 }
 
+/* Numbers and a text as attributes: linux/netlink.h, by hand. */
+static void check_typed_puts(void) {
+    uint8_t out[96];
+    struct neli_writer writer = {0, 0};
+    const uint8_t want[84] = {5, 0, 1, 0, 0xa1, 0, 0, 0, 6, 0, 2, 0, 0xb2, 0xa1, 0, 0,
+                              8, 0, 3, 0, 0xd4, 0xc3, 0xb2, 0xa1,
+                              12, 0, 4, 0, 8, 7, 6, 5, 4, 3, 2, 1,
+                              6, 0, 5, 0, 0xa1, 0xb2, 0, 0, 8, 0, 6, 0, 0xa1, 0xb2, 0xc3, 0xd4,
+                              12, 0, 7, 0, 1, 2, 3, 4, 5, 6, 7, 8,
+                              9, 0, 8, 0x40, 'v', 'e', 't', 'h', 0, 0, 0, 0, 5, 0, 9, 0, 0, 0, 0, 0};
+    CHECK(neli_put_u8(out, sizeof out, &writer, 1, 0xa1) == NELI_OK && writer.end == 8);
+    CHECK(neli_put_u16(out, sizeof out, &writer, 2, 0xa1b2) == NELI_OK && writer.end == 16);
+    CHECK(neli_put_u32(out, sizeof out, &writer, 3, 0xa1b2c3d4) == NELI_OK && writer.end == 24);
+    CHECK(neli_put_u64(out, sizeof out, &writer, 4, 0x0102030405060708) == NELI_OK && writer.end == 36);
+    CHECK(neli_put_be16(out, sizeof out, &writer, 5, 0xa1b2) == NELI_OK && writer.end == 44);
+    CHECK(neli_put_be32(out, sizeof out, &writer, 6, 0xa1b2c3d4) == NELI_OK && writer.end == 52);
+    CHECK(neli_put_be64(out, sizeof out, &writer, 7, 0x0102030405060708) == NELI_OK && writer.end == 64);
+    CHECK(neli_put_text(out, sizeof out, &writer, 8 | NELI_NETWORK_ORDER, "veth") == NELI_OK && writer.end == 76);
+    CHECK(neli_put_text(out, sizeof out, &writer, 9, "") == NELI_OK && writer.end == sizeof want);
+    CHECK(memcmp(out, want, sizeof want) == 0);
+    CHECK(neli_put_text(out, sizeof out, &writer, 9, "eight..8") == NELI_ROOM && writer.end == sizeof want);
+    CHECK(neli_put_text(out, sizeof out, &writer, 9, NULL) == NELI_NULL);
+    CHECK(neli_put_u64(NULL, sizeof out, &writer, 9, 1) == NELI_NULL && neli_put_u8(out, 96, NULL, 9, 1) == NELI_NULL);
+}
+
 /* Three messages and a cut one, of which two are given at once, then one; and attributes. What is not given stays. */
 static void check_several(void) {
     uint8_t out[64] = {0};
@@ -162,6 +187,17 @@ static void check_answer(const uint8_t *bytes, size_t size) {
     CHECK(neli_find_attribute(bytes, size, &answer.attributes, NELI_ANSWER_TEXT, &attribute) == NELI_ITEM);
     CHECK(strcmp((const char *)bytes + attribute.payload, "no") == 0);
     CHECK(neli_find_attribute(bytes, size, &answer.attributes, NELI_ANSWER_OFFSET, &attribute) == NELI_END);
+    /* A length of the echoed header is refused only where the whole request is echoed. */
+    uint8_t other[sizeof error_bytes];
+    memcpy(other, bytes, size);
+    other[20] = 15;
+    CHECK(neli_get_answer(other, size, &message, &answer) == NELI_OK && answer.echo_length == 15);
+    message.flags = 0x200;
+    CHECK(neli_get_answer(other, size, &message, &answer) == NELI_LENGTH && answer.echo_length == 15);
+    memset(other + 16, 0, 4);
+    other[20] = 200;
+    CHECK(neli_get_answer(other, size, &message, &answer) == NELI_OK && answer.code == 0 && answer.echo_length == 200);
+    answer.code = -19;
     message.type = 16;
     CHECK(neli_get_answer(bytes, size, &message, &answer) == NELI_KIND);
     message.payload = size;
@@ -450,6 +486,7 @@ static void check_handles(void) {
 int main(void) {
     check_texts();
     check_writing_and_reading();
+    check_typed_puts();
     check_several();
     check_numbers();
     check_answer(error_bytes, sizeof error_bytes);

@@ -13,8 +13,8 @@ use neli_consts::NLMSG_ERROR;
 /// Stores the fields of an error, an acknowledgement or the end of a dump.
 ///
 /// Returns `OK`; `PLACE` if its payload is past the bytes; `KIND` if the message is of another kind, `SHORT` if the
-/// payload is shorter than the code and the header, `LENGTH` if the echoed request has a length below 16 or exceeds the
-/// payload. On a refusal `answer` is unchanged.
+/// payload is shorter than the code and the header, `LENGTH` if an error without the flag CAPPED echoes a request whose
+/// length is below 16 or exceeds the payload. On a refusal `answer` is unchanged.
 #[unsafe(no_mangle)]
 pub extern "C" fn neli_c_get_answer(
     bytes: &[u8],
