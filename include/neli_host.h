@@ -217,8 +217,9 @@ bool neli_host_find(const struct neli_host *host, const struct neli_walk *walk, 
  * its place is not within the item, as that of an attribute of an earlier item may be. */
 const char *neli_host_text(const struct neli_host *host, const struct neli_attribute *attribute);
 
-/* Writes why the kernel refused, after NELI_KERNEL_ERROR: the meaning of its number, its text and its offset, if it
- * sent these; or the meaning of another code. Where `host` or `message` is null it writes the meaning of the code
+/* Writes why the kernel refused, after NELI_KERNEL_ERROR: the meaning of its number, and if it sent these its text, its
+ * offset, and the number of an attribute that is missing, with the place of the nest that lacks it; or the meaning of
+ * another code. Where `host` or `message` is null it writes the meaning of the code
  * alone. Nothing if `text` is null. */
 void neli_host_explain(const struct neli_host *host, int32_t code, const struct neli_message *message, char *text,
                        size_t room);

@@ -178,16 +178,32 @@ const char *neli_host_text(const struct neli_host *host, const struct neli_attri
     return neli_text_length(payload, attribute->payload_length, &length) == NELI_OK ? (const char *)payload : NULL;
 }
 
+/* A number of an extended acknowledgement, if it has one. */
+static bool has_number(const struct neli_host *host, const struct neli_answer *answer, uint16_t which,
+                       uint32_t *number) {
+    struct neli_attribute found;
+    return neli_host_find(host, &answer->attributes, which, &found) &&
+           neli_get_u32(host->item + found.payload, found.payload_length, 0, number) == NELI_OK;
+}
+
+/* Appends words with a number to a text, as much of them as there is room for. */
+static void append(char *text, size_t room, const char *words, uint32_t number) {
+    size_t used = strlen(text);
+    snprintf(text + used, room - used, words, number);
+}
+
 /* The kernel's reason for its refusal, appended to the text. */
 static void append_words(const struct neli_host *host, const struct neli_answer *answer, char *text, size_t room) {
     struct neli_attribute found;
     size_t used = strlen(text);
-    uint32_t offset;
+    uint32_t number;
     if (neli_host_find(host, &answer->attributes, NELI_ANSWER_TEXT, &found) && neli_host_text(host, &found) != NULL)
-        used += (size_t)snprintf(text + used, room - used, ": %s", neli_host_text(host, &found));
-    if (used < room && neli_host_find(host, &answer->attributes, NELI_ANSWER_OFFSET, &found) &&
-        neli_get_u32(host->item + found.payload, found.payload_length, 0, &offset) == NELI_OK)
-        snprintf(text + used, room - used, ", at byte %u of the request", offset);
+        snprintf(text + used, room - used, ": %s", neli_host_text(host, &found));
+    if (has_number(host, answer, NELI_ANSWER_OFFSET, &number)) append(text, room, ", at byte %u of the request", number);
+    if (!has_number(host, answer, NELI_ANSWER_MISSING, &number)) return;
+    append(text, room, ", attribute %u is missing", number);
+    if (has_number(host, answer, NELI_ANSWER_MISSING_NEST, &number))
+        append(text, room, " in the nest at byte %u of the request", number);
 }
 
 void neli_host_explain(const struct neli_host *host, int32_t code, const struct neli_message *message, char *text,

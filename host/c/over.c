@@ -58,6 +58,17 @@ static void answer_dump(struct kernel *kernel, const struct neli_request *reques
     WANT(code == NELI_END && kernel->dump_ends > 5 && neli_kernel_dump_free(&dump) == NELI_OK);
 }
 
+/* Why there is no such link: nothing, an attribute that is missing, the same in a nest, or all that can be said. */
+static size_t reasons(int index, uint8_t *out, size_t room) {
+    struct neli_writer writer = {0};
+    bool is_all = index == LINKS + 4;
+    if (is_all) WANT(neli_put_text(out, room, &writer, NELI_ANSWER_TEXT, "no") == NELI_OK);
+    if (is_all) WANT(neli_put_u32(out, room, &writer, NELI_ANSWER_OFFSET, 44) == NELI_OK);
+    if (index > LINKS + 1) WANT(neli_put_u32(out, room, &writer, NELI_ANSWER_MISSING, 3) == NELI_OK);
+    if (index > LINKS + 2) WANT(neli_put_u32(out, room, &writer, NELI_ANSWER_MISSING_NEST, 32) == NELI_OK);
+    return writer.end;
+}
+
 /* A get or a change, with an acknowledgement. */
 static void answer(struct kernel *kernel, const uint8_t *bytes, const struct neli_request *request) {
     struct ifinfomsg link;
@@ -65,8 +76,10 @@ static void answer(struct kernel *kernel, const uint8_t *bytes, const struct nel
     uint8_t *out;
     memcpy(&link, bytes + request->message.payload, sizeof link);
     if (link.ifi_index > LINKS) {
+        uint8_t list[64];
+        size_t size = reasons(link.ifi_index, list, sizeof list);
         out = append(kernel, 0, &length);
-        WANT(neli_kernel_capped_error(request, -ENODEV, NULL, 0, out, 512, length) == NELI_OK);
+        WANT(neli_kernel_capped_error(request, -ENODEV, list, size, out, 512, length) == NELI_OK);
         return;
     }
     if (request->message.type == RTM_GETLINK) {
@@ -215,6 +228,33 @@ static void answers_that_come_later(void) {
     neli_host_close(host);
 }
 
+/* All that a kernel says of a refusal stands in the words, as much of it as there is room for. */
+static void a_refusal_says_what_is_missing(void) {
+    static const char *words[] = {
+        "No such device",
+        "No such device, attribute 3 is missing",
+        "No such device, attribute 3 is missing in the nest at byte 32 of the request",
+        "No such device: no, at byte 44 of the request, attribute 3 is missing in the nest at byte 32 of the request",
+    };
+    static struct kernel kernel;
+    struct neli_host *host = host_over(&kernel);
+    struct neli_message message;
+    char text[256], part[256];
+    for (int i = 0; i < 4; i++) {
+        size_t handle = send_question(host, LINKS + 1 + i);
+        WANT(neli_host_next(host, handle, &message) == NELI_KERNEL_ERROR);
+        neli_host_explain(host, NELI_KERNEL_ERROR, &message, text, sizeof text);
+        WANT(strcmp(text, words[i]) == 0);
+        for (size_t room = 1; room < sizeof part; room++) {
+            size_t kept = room - 1 < strlen(text) ? room - 1 : strlen(text);
+            memset(part, 'x', sizeof part);
+            neli_host_explain(host, NELI_KERNEL_ERROR, &message, part, room);
+            WANT(strlen(part) == kept && memcmp(part, text, kept) == 0 && part[sizeof part - 1] == 'x');
+        }
+    }
+    neli_host_close(host);
+}
+
 static void a_transport_has_all_functions(void) {
     static struct kernel kernel;
     const struct neli_transport over[] = {
@@ -234,6 +274,7 @@ static const struct test tests[] = {
     {"a_client_of_a_simulator", a_client_of_a_simulator},
     {"faults_of_a_transport", faults_of_a_transport},
     {"answers_that_come_later", answers_that_come_later},
+    {"a_refusal_says_what_is_missing", a_refusal_says_what_is_missing},
     {"a_transport_has_all_functions", a_transport_has_all_functions},
 };
 
