@@ -1,3 +1,1 @@
 mod Loops
-mod Records
-mod Texts

@@ -3,7 +3,6 @@ pub mod Bodies
 pub mod Faults
 pub mod Flags
 pub mod Heads
-pub mod inputs
 pub mod Items
 pub mod ItemsJson
 pub mod ItemsText

@@ -5,7 +5,6 @@
 //!   tables.
 //! - [`ItemText`], [`ItemJson`]: an item of a walk over attributes.
 //! - [`laws`]: JSON is one value a message, and lines of such values a datagram.
-//! - [`inputs`]: the datagrams of a file, raw, as hexadecimal text or as a pcap file.
 //!
 //! Each of the first three is printed by `Display`, and takes no memory. What it prints is a function of the tables
 //! and the bytes: `datagram_text`, `message_json` and the others of `specs/`.
@@ -18,7 +17,6 @@ mod fault;
 mod flag_rows;
 mod flags;
 mod head;
-pub mod inputs;
 mod item;
 mod item_json;
 mod item_text;

@@ -4,11 +4,11 @@ use Rattle.std.proofs.Common.{subst, ◌∙◌, append_assoc, append-nil, arith,
 use Rattle.std.specs.Fmt.{decimal}
 use Rattle.std.specs.List.{list_all}
 use Rattle.std.specs.Option.{unwrap_or}
-use Rattle.neli_print.specs.inputs.Refusals.{refusal_text}
-use Rattle.neli_print.specs.declared.inputs.item.Item.{Item}
-use Rattle.neli_print.specs.declared.inputs.item.Packet.{Packet}
-use Rattle.neli_print.specs.declared.inputs.item.Refusal.{Refusal}
-use Rattle.neli_print.specs.declared.inputs.item.Refusal.TheVariants as refusal
+use Rattle.neli_inputs.specs.Refusals.{refusal_text}
+use Rattle.neli_inputs.specs.declared.item.Item.{Item}
+use Rattle.neli_inputs.specs.declared.item.Packet.{Packet}
+use Rattle.neli_inputs.specs.declared.item.Refusal.{Refusal}
+use Rattle.neli_inputs.specs.declared.item.Refusal.TheVariants as refusal
 use Rattle.neli_print.specs.laws.Printed.{datagram_json-lines}
 use Rattle.neli_tables.specs.declared.tables.Tables.{Tables}
 use Rattle.neli_tables_walk.specs.Json.{AreSoManyLines, IsJson, is_plain, members, object}

@@ -1,9 +1,9 @@
 -- The numbers of generic netlink's families, as the controller's messages in an input say.
 use Rattle.std.specs.Prelude.{◌≡◌, ℕ, List, [], ◌∷◌, Option, Some, None, Result, Ok, Err}
 use Rattle.std.specs.Option.{unwrap_or}
-use Rattle.neli_print.specs.declared.inputs.item.Item.{Item}
-use Rattle.neli_print.specs.declared.inputs.item.Packet.{Packet}
-use Rattle.neli_print.specs.declared.inputs.item.Refusal.{Refusal}
+use Rattle.neli_inputs.specs.declared.item.Item.{Item}
+use Rattle.neli_inputs.specs.declared.item.Packet.{Packet}
+use Rattle.neli_inputs.specs.declared.item.Refusal.{Refusal}
 use Rattle.neli_lent.specs.Messages.{Lent, messages_in}
 use Rattle.neli_lent.specs.Walks.{items_of}
 use Rattle.neli_tables_walk.specs.Controller.{family_said, learnt_from}

@@ -3,10 +3,10 @@ use Rattle.std.specs.Prelude.{ℕ, ◌+◌, Bool, false, List, [], ◌∷◌, le
 use Rattle.std.specs.Prelude.{Option, is_none, Result, Ok, Err}
 use Rattle.std.specs.Io.KnownBytes.{Appends}
 use Rattle.std.specs.List.{list_all}
-use Rattle.neli_print.specs.inputs.Inputs.{IsInput}
-use Rattle.neli_print.specs.declared.inputs.item.Item.{Item}
-use Rattle.neli_print.specs.declared.inputs.item.Packet.{Packet}
-use Rattle.neli_print.specs.declared.inputs.item.Refusal.{Refusal}
+use Rattle.neli_inputs.specs.Inputs.{IsInput}
+use Rattle.neli_inputs.specs.declared.item.Item.{Item}
+use Rattle.neli_inputs.specs.declared.item.Packet.{Packet}
+use Rattle.neli_inputs.specs.declared.item.Refusal.{Refusal}
 use Rattle.neli_lent.specs.Messages.{messages_in}
 use Rattle.neli_lent.specs.Walks.{items_of}
 use Rattle.neli_tables_walk.specs.Json.{AreSoManyLines}

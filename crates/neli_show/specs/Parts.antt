@@ -4,10 +4,10 @@ use Rattle.std.specs.Prelude.{codes, length, slice_range, Result, Ok, Err}
 use Rattle.std.specs.Fmt.{decimal}
 use Rattle.std.specs.List.{flat_map}
 use Rattle.std.specs.Option.{unwrap_or}
-use Rattle.neli_print.specs.inputs.Refusals.{refusal_text}
-use Rattle.neli_print.specs.declared.inputs.item.Item.{Item}
-use Rattle.neli_print.specs.declared.inputs.item.Packet.{Packet}
-use Rattle.neli_print.specs.declared.inputs.item.Refusal.{Refusal}
+use Rattle.neli_inputs.specs.Refusals.{refusal_text}
+use Rattle.neli_inputs.specs.declared.item.Item.{Item}
+use Rattle.neli_inputs.specs.declared.item.Packet.{Packet}
+use Rattle.neli_inputs.specs.declared.item.Refusal.{Refusal}
 use Rattle.neli_print.specs.Messages.{datagram_json, datagram_text}
 use Rattle.neli_print.specs.Pieces.{painted}
 use Rattle.neli_print.specs.declared.pieces.Colour.TheVariants as colour

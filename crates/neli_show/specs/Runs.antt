@@ -11,8 +11,8 @@ use Rattle.std.specs.declared.io.ErrorKind.{ErrorKind}
 use Rattle.std.specs.declared.io.ErrorKind.TheVariants.{OutOfMemory}
 use Rattle.std.specs.declared.string.String.{String}
 use Rattle.std.specs.declared.vec.Vec.{Vec}
-use Rattle.neli_print.specs.inputs.Inputs.{IsInput}
-use Rattle.neli_print.specs.declared.inputs.item.Item.{Item}
+use Rattle.neli_inputs.specs.Inputs.{IsInput}
+use Rattle.neli_inputs.specs.declared.item.Item.{Item}
 use Rattle.neli_tables.specs.declared.tables.Tables.{Tables}
 use Rattle.neli_show.specs.declared.request.Request.{Request}
 use Rattle.neli_show.specs.declared.run.Status.{Status}

@@ -4,7 +4,7 @@ ghost use Rattle.std.specs.Prelude.{◌≡◌, Some};
 ghost use Rattle.neli_show.specs.Parts.{datagram_by, input_by, packet_bytes, part_by, refusal_by};
 
 use crate::request::Output;
-use neli_print::inputs::{Input, Item, Packet, Refusal};
+use neli_inputs::{Input, Item, Packet, Refusal};
 use neli_print::{Colour, Datagram, DatagramJson, DatagramText, escape};
 use neli_tables::Tables;
 use std::fmt;

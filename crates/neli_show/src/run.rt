@@ -18,7 +18,7 @@ use crate::learn::{learn_input, learn_word};
 use crate::part::Parts;
 use crate::request::{Output, Request, request_of};
 use crate::whole::is_whole_input;
-use neli_print::inputs::{Input, read_input};
+use neli_inputs::{Input, read_input};
 use neli_tables::{ReadError, Tables};
 use neli_tables_walk::built_in;
 use std::alloc::Global;

@@ -5,7 +5,7 @@ ghost use Rattle.neli_show.specs.Lines.{is_whole_datagram, is_whole_input, is_wh
 
 use crate::part::packet_bytes;
 use neli_lent::LentMessages;
-use neli_print::inputs::{Input, Item};
+use neli_inputs::{Input, Item};
 
 /// Whether no fault follows the messages of a datagram.
 fn is_whole_datagram(bytes: &[u8]) -> bool

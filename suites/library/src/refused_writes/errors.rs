@@ -15,7 +15,7 @@ use neli::short::AttrError;
 use neli::show::Fault;
 use neli::types::Buffer;
 use neli::{Cursor, FromBytes};
-use neli_print::inputs::Refusal;
+use neli_inputs::Refusal;
 use std::alloc::Global;
 use std::fmt::Display;
 use std::io::ErrorKind;

@@ -1,8 +1,8 @@
 //! Files: pcap, and raw bytes.
 
 use super::reading::{assert_is_at, listed};
-use neli_print::inputs::pcap::{Order, order_of, read_pcap};
-use neli_print::inputs::{Input, read_input};
+use neli_inputs::pcap::{Order, order_of, read_pcap};
+use neli_inputs::{Input, read_input};
 use std::test::Fail;
 
 /// The name of a file, its bytes in hexadecimal, and its items.

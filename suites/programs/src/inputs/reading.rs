@@ -1,6 +1,6 @@
 //! An input as a test reads it.
 
-use neli_print::inputs::Input;
+use neli_inputs::Input;
 use std::alloc::Global;
 use std::fmt::Debug;
 use std::process::Abort;

@@ -1,8 +1,8 @@
 //! Pasted texts.
 
 use super::reading::{assert_is_at, listed};
-use neli_print::inputs::read_input;
-use neli_print::inputs::text::read_text;
+use neli_inputs::read_input;
+use neli_inputs::text::read_text;
 use std::test::Fail;
 
 /// The name of a text, the text, and its items.

@@ -1,0 +1,16 @@
+-- The printed text of a refusal.
+use Rattle.std.specs.Prelude.{ℕ, List, ◌++◌, codes}
+use Rattle.std.specs.Fmt.{decimal}
+use Rattle.neli_inputs.specs.declared.item.Refusal.{Refusal}
+use Rattle.neli_inputs.specs.declared.item.Refusal.TheVariants.{FileHeader, LinkType, RecordHeader, RecordBytes}
+use Rattle.neli_inputs.specs.declared.item.Refusal.TheVariants.{Snapped, NotNetlink, Gap, NotHex}
+
+abbrev pub refusal_text : Refusal → List ℕ
+refusal_text FileHeader = codes "the input ends inside a file's header"
+refusal_text (LinkType link) = codes "a file of link type " ++ decimal link
+refusal_text RecordHeader = codes "the input ends inside a record's header"
+refusal_text (RecordBytes count) = codes "the input ends after " ++ (decimal count ++ codes " bytes of a record")
+refusal_text (Snapped length) = codes "a packet cut short from " ++ (decimal length ++ codes " bytes")
+refusal_text NotNetlink = codes "a packet that is not of netlink"
+refusal_text Gap = codes "an offset that is not the number of bytes before it"
+refusal_text NotHex = codes "a line that is not hexadecimal"
