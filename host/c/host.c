@@ -1,8 +1,6 @@
 #include "host.h"
-#include <errno.h>
 #include <linux/netlink.h>
 #include <stdlib.h>
-#include <string.h>
 
 /* The number of consecutive faults, without end, that mean a closed socket. */
 #define FAULTS 8
@@ -28,9 +26,10 @@ static enum neli_reader reader_of(size_t handle) {
     return handle == NELI_HOST_UNASKED ? NELI_READER_UNASKED : NELI_READER_REQUEST;
 }
 
-int32_t host_failed(struct neli_host *host, int fault) {
-    host->fault = fault;
-    return NELI_LINK;
+/* The next item of a handle, as neli_session_next. */
+static int32_t look(struct neli_host *host, size_t handle, struct neli_lent *lent) {
+    if (handle != NELI_HOST_UNASKED && handle > handle_of(UINT32_MAX)) return NELI_HANDLE;
+    return neli_session_next(&host->session, reader_of(handle), number_of(handle), lent);
 }
 
 /* ---- What goes out ---- */
@@ -47,66 +46,61 @@ static void flush(struct neli_host *host) {
     }
 }
 
-/* Sends requests that were queued, if they may go out now. If the system refuses them at once they are closed. */
-static int32_t go_out(struct neli_host *host, const size_t *handles, size_t count) {
-    struct neli_lent lent;
-    flush(host);
-    if (neli_session_next(&host->session, NELI_READER_REQUEST, number_of(handles[0]), &lent) != NELI_LINK)
-        return NELI_OK;
-    for (size_t i = 0; i < count; i++) neli_session_close(&host->session, number_of(handles[i]));
-    return host_failed(host, lent.error);
+/* Writes a message behind those before it, with its padding. */
+static int32_t write_message(uint8_t *out, size_t room, struct neli_writer *writer, const struct neli_message *head,
+                             const void *body, size_t length) {
+    int32_t code = neli_begin_message(out, room, writer, head->type, head->flags, head->number, head->port);
+    if (code == NELI_OK) code = neli_put_bytes(out, room, writer, body, length);
+    return code == NELI_OK ? neli_end_message(out, room, writer) : code;
 }
 
-int32_t neli_host_send(struct neli_host *host, uint16_t type, uint16_t flags, const void *body, size_t length,
-                       size_t *handle) {
-    uint32_t number;
-    if (host == NULL || !neli_is_slice(body, length) || handle == NULL) return NELI_NULL;
-    int32_t code = neli_session_send(&host->session, type, flags, body, length, &number);
-    if (code != NELI_OK) return code;
-    size_t sent = handle_of(number);
-    code = go_out(host, &sent, 1);
-    if (code == NELI_OK) *handle = sent;
-    return code;
-}
-
-static bool are_whole(const struct neli_host_request *requests, size_t count) {
-    if (count > PTRDIFF_MAX / sizeof *requests || !neli_is_slice(requests, count)) return false;
-    for (size_t i = 0; i < count; i++)
-        if (!neli_is_slice(requests[i].body, requests[i].length)) return false;
-    return true;
-}
-
-/* Writes a request behind those before it, with a number of its own, and returns its handle. */
-static int32_t write_request(struct neli_host *host, const struct neli_host_request *request, uint8_t *out, size_t room,
-                             struct neli_writer *writer, size_t *handle) {
-    uint16_t flags = request->flags | NLM_F_REQUEST;
-    uint32_t number;
-    int32_t code = neli_session_take_number(&host->session, &number);
-    if (code == NELI_OK)
-        code = neli_begin_message(out, room, writer, request->type, flags, number, host->link.port);
-    if (code == NELI_OK) code = neli_put_bytes(out, room, writer, request->body, request->length);
-    if (code == NELI_OK) code = neli_end_message(out, room, writer);
-    if (code == NELI_OK) *handle = handle_of(number);
-    return code;
-}
-
-int32_t neli_host_send_all(struct neli_host *host, const struct neli_host_request *requests, size_t count,
-                           size_t *handles) {
+/* Queues requests as one datagram, each with a number of its own. */
+static int32_t queue(struct neli_host *host, const struct neli_host_request *requests, size_t count, size_t *handles) {
     struct neli_writer writer = {0};
     size_t room = 0;
-    if (host == NULL || !are_whole(requests, count) || !neli_is_slice(handles, count)) return NELI_NULL;
-    if (count == 0) return NELI_OK;
     for (size_t i = 0; i < count; i++) {
+        if (!neli_is_slice(requests[i].body, requests[i].length)) return NELI_NULL;
         if (message_length(requests[i].length) > UINT32_MAX) return NELI_LENGTH;
         room += message_length(requests[i].length);
     }
     uint8_t *out = malloc(room);
     int32_t code = out != NULL ? NELI_OK : NELI_MEMORY;
-    for (size_t i = 0; i < count && code == NELI_OK; i++)
-        code = write_request(host, &requests[i], out, room, &writer, &handles[i]);
+    for (size_t i = 0; i < count && code == NELI_OK; i++) {
+        const struct neli_host_request *it = &requests[i];
+        struct neli_message head = {.type = it->type, .flags = it->flags | NLM_F_REQUEST, .port = host->link.port};
+        code = neli_session_take_number(&host->session, &head.number);
+        if (code == NELI_OK) code = write_message(out, room, &writer, &head, it->body, it->length);
+        handles[i] = handle_of(head.number);
+    }
     if (code == NELI_OK) code = neli_session_send_all(&host->session, out, writer.end);
     free(out);
-    return code == NELI_OK ? go_out(host, handles, count) : code;
+    return code;
+}
+
+int32_t neli_host_send_all(struct neli_host *host, const struct neli_host_request *requests, size_t count,
+                           size_t *handles) {
+    struct neli_lent lent;
+    if (host == NULL || count > PTRDIFF_MAX / sizeof *requests || !neli_is_slice(requests, count) ||
+        !neli_is_slice(handles, count))
+        return NELI_NULL;
+    if (count == 0) return NELI_OK;
+    int32_t code = queue(host, requests, count, handles);
+    if (code == NELI_OK) flush(host);
+    if (code != NELI_OK || look(host, handles[0], &lent) != NELI_LINK) return code;
+    /* The system refuses them at once. */
+    for (size_t i = 0; i < count; i++) neli_session_close(&host->session, number_of(handles[i]));
+    host->link.fault = lent.error;
+    return NELI_LINK;
+}
+
+int32_t neli_host_send(struct neli_host *host, uint16_t type, uint16_t flags, const void *body, size_t length,
+                       size_t *handle) {
+    struct neli_host_request request = {type, flags, body, length};
+    size_t sent;
+    if (handle == NULL) return NELI_NULL;
+    int32_t code = neli_host_send_all(host, &request, 1, &sent);
+    if (code == NELI_OK) *handle = sent;
+    return code;
 }
 
 /* ---- What comes ---- */
@@ -119,33 +113,30 @@ void host_drop(struct neli_host *host, enum neli_reader reader) {
 }
 
 static bool is_held(const struct neli_host *host) {
-    return host->held.place < host->held.datagram.length || host->held.fault != 0;
+    return host->place < host->held.length || host->due != 0;
 }
 
 /* Receives what is handed in next. A socket that has nothing but faults is closed. */
 static int32_t receive(struct neli_host *host) {
-    struct held *held = &host->held;
-    *held = (struct held){0};
-    int32_t code = link_receive(&host->link, &held->datagram);
+    host->place = 0;
+    int32_t code = link_receive(&host->link, &host->held);
+    if (code != NELI_OK) host->held.length = 0;
     host->faults = code == NELI_LINK ? host->faults + 1 : 0;
-    if (code != NELI_LINK) return code;
-    if (host->faults > FAULTS) return host_failed(host, host->link.fault);
-    held->fault = host->link.fault;
+    if (code != NELI_LINK || host->faults > FAULTS) return code;
+    host->due = host->link.fault;
     return NELI_OK;
 }
 
 /* Hands in what is held. At NELI_MEMORY the rest of it stays. */
 static int32_t hand_in(struct neli_host *host) {
-    struct held *held = &host->held;
-    const struct neli_received *it = &held->datagram;
-    size_t taken = 0;
-    int32_t code;
-    if (held->fault != 0) code = neli_session_fault(&host->session, held->fault);
-    else
-        code = neli_session_receive(&host->session, host->link.room + held->place, it->length - held->place, it->group,
-                                    it->is_joined, &taken);
-    held->place += taken;
-    if (code == NELI_OK) held->fault = 0;
+    const struct neli_received *held = &host->held;
+    const uint8_t *rest = host->link.room + host->place;
+    size_t left = held->length - host->place, taken = 0;
+    int32_t code = host->due != 0
+        ? neli_session_fault(&host->session, host->due)
+        : neli_session_receive(&host->session, rest, left, held->group, held->is_joined, &taken);
+    host->place += taken;
+    if (code == NELI_OK) host->due = 0;
     if (!host->keeps_unasked) host_drop(host, NELI_READER_UNASKED);
     return code;
 }
@@ -154,26 +145,21 @@ int32_t host_take_in(struct neli_host *host) {
     int32_t code = is_held(host) ? NELI_OK : receive(host);
     if (code == NELI_OK) code = hand_in(host);
     if (code == NELI_WAITS && host->link.is_empty) neli_session_quiet(&host->session);
-    flush(host);
+    if (code != NELI_LINK) flush(host);
     return code;
 }
 
 /* ---- What is read ---- */
 
-/* The next item of a handle, as neli_session_next. */
-static int32_t look(struct neli_host *host, size_t handle, struct neli_lent *lent) {
-    if (handle != NELI_HOST_UNASKED && handle > handle_of(UINT32_MAX)) return NELI_HANDLE;
-    return neli_session_next(&host->session, reader_of(handle), number_of(handle), lent);
-}
-
 static void pass(struct neli_host *host, size_t handle) {
     neli_session_pass(&host->session, reader_of(handle), number_of(handle));
 }
 
-/* Whether it is the open handle of a request or of multicast. */
-static bool is_open(struct neli_host *host, size_t handle) {
+/* NELI_OK for the open handle of a request or of multicast. */
+static int32_t want_open(struct neli_host *host, size_t handle) {
     struct neli_lent lent;
-    return handle != NELI_HOST_UNASKED && look(host, handle, &lent) != NELI_HANDLE;
+    if (host == NULL) return NELI_NULL;
+    return handle != NELI_HOST_UNASKED && look(host, handle, &lent) != NELI_HANDLE ? NELI_OK : NELI_HANDLE;
 }
 
 /* Takes in more until an item of the handle is there, or the wait has ended. Once the link was seen empty, which may
@@ -184,34 +170,30 @@ static int32_t lend(struct neli_host *host, size_t handle, struct neli_lent *len
     for (bool is_first = true; code == NELI_WAITS; is_first = false) {
         if (taken == NELI_WAITS) code = link_wait(&host->link, end);
         else code = is_first ? NELI_OK : link_goes_on(&host->link, end);
-        if (code == NELI_LINK) return host_failed(host, host->link.fault);
+        if (code == NELI_LINK) return code;
         taken = host_take_in(host);
         if (taken != NELI_OK && taken != NELI_WAITS) return taken;
         code = look(host, handle, lent);
     }
-    return code == NELI_LINK ? host_failed(host, lent->error) : code;
+    if (code == NELI_LINK) host->link.fault = lent->error;
+    return code;
 }
 
 /* Copies an item, with its padding. */
 static int32_t copy(struct neli_host *host, const struct neli_lent *lent, struct neli_message *message) {
-    const struct neli_message *from = &lent->message;
+    struct neli_writer writer = {0};
     size_t length = message_length(lent->length);
-    struct nlmsghdr header = {(uint32_t)length, from->type, from->flags, from->number, from->port};
     if (length > host->item_room) {
         uint8_t *grown = realloc(host->item, length);
         if (grown == NULL) return NELI_MEMORY;
         host->item = grown;
         host->item_room = length;
     }
-    memset(host->item + length - 4, 0, 4);
-    memcpy(host->item, &header, sizeof header);
-    memcpy(host->item + sizeof header, lent->bytes, lent->length);
     host->item_length = length;
-    *message = *from;
-    message->length = header.nlmsg_len;
-    message->payload = sizeof header;
-    message->payload_length = length - sizeof header;
-    return NELI_OK;
+    int32_t code = write_message(host->item, length, &writer, &lent->message, lent->bytes, lent->length);
+    struct neli_walk walk = {0, writer.end};
+    if (code == NELI_OK) neli_next_message(host->item, length, &walk, message);
+    return code;
 }
 
 int32_t neli_host_next(struct neli_host *host, size_t handle, struct neli_message *message) {
@@ -234,10 +216,9 @@ int32_t neli_host_lend(struct neli_host *host, size_t handle, struct neli_lent *
 }
 
 int32_t neli_host_pass(struct neli_host *host, size_t handle) {
-    if (host == NULL) return NELI_NULL;
-    if (!is_open(host, handle)) return NELI_HANDLE;
-    pass(host, handle);
-    return NELI_OK;
+    int32_t code = want_open(host, handle);
+    if (code == NELI_OK) pass(host, handle);
+    return code;
 }
 
 bool neli_host_is_ready(struct neli_host *host, size_t handle) {
@@ -247,16 +228,16 @@ bool neli_host_is_ready(struct neli_host *host, size_t handle) {
 }
 
 int32_t neli_host_verdict(struct neli_host *host, size_t handle, struct neli_verdict *verdict) {
-    if (host == NULL || verdict == NULL) return NELI_NULL;
-    if (!is_open(host, handle)) return NELI_HANDLE;
+    int32_t code = verdict != NULL ? want_open(host, handle) : NELI_NULL;
+    if (code != NELI_OK) return code;
     *verdict = (struct neli_verdict){0};
     if (handle == NELI_MULTICAST) return NELI_WAITS;
     return neli_session_verdict(&host->session, number_of(handle), verdict);
 }
 
 int32_t neli_host_close_request(struct neli_host *host, size_t handle) {
-    if (host == NULL) return NELI_NULL;
-    if (!is_open(host, handle)) return NELI_HANDLE;
+    int32_t code = want_open(host, handle);
+    if (code != NELI_OK) return code;
     if (handle == NELI_MULTICAST) return neli_session_close_multicast(&host->session);
     return neli_session_close(&host->session, number_of(handle));
 }

@@ -157,8 +157,8 @@ static size_t completed(const struct link *link, size_t length) {
 
 int32_t link_receive(struct link *link, struct neli_received *received) {
     const struct neli_transport *over = &link->over;
-    if (link->room == NULL && !has_room(link, ROOM + PADDING)) return NELI_MEMORY;
     *received = (struct neli_received){0};
+    if (link->room == NULL && !has_room(link, ROOM + PADDING)) return NELI_MEMORY;
     errno = over->receive != NULL ? over->receive(over->state, link->room, link->size - PADDING, received)
                                   : receive(link, received);
     link->is_empty = errno == EAGAIN;

@@ -6,32 +6,26 @@
 #include <stdlib.h>
 #include <string.h>
 
-static bool is_made(struct neli_host **host) {
-    *host = malloc(sizeof **host);
-    if (*host != NULL) **host = (struct neli_host){.session = NELI_SESSION_CLOSED};
-    return *host != NULL;
-}
-
-/* Begins the session over a link, where `code` is that of its opening. */
-static int32_t begun(struct neli_host *host, int family, int32_t code) {
-    if (code != NELI_OK) return host_failed(host, host->link.fault);
-    return neli_session_new(&host->session, family, host->link.port, true);
+/* Makes a host that is closed, if it may have what it is opened with. */
+static int32_t make(struct neli_host **host, bool may) {
+    if (host == NULL) return NELI_NULL;
+    *host = may ? malloc(sizeof **host) : NULL;
+    if (*host == NULL) return may ? NELI_MEMORY : NELI_NULL;
+    **host = (struct neli_host){.session = NELI_SESSION_CLOSED};
+    return NELI_OK;
 }
 
 int32_t neli_host_open(struct neli_host **host, int family, const uint32_t *groups, size_t count) {
-    if (host == NULL) return NELI_NULL;
-    *host = NULL;
-    if (count > PTRDIFF_MAX / sizeof *groups || !neli_is_slice(groups, count)) return NELI_NULL;
-    if (!is_made(host)) return NELI_MEMORY;
-    return begun(*host, family, link_open(&(*host)->link, family, groups, count));
+    int32_t code = make(host, count <= PTRDIFF_MAX / sizeof *groups && neli_is_slice(groups, count));
+    if (code == NELI_OK) code = link_open(&(*host)->link, family, groups, count);
+    return code == NELI_OK ? neli_session_new(&(*host)->session, family, (*host)->link.port, true) : code;
 }
 
 int32_t neli_host_open_over(struct neli_host **host, int family, uint32_t port, const struct neli_transport *over) {
-    if (host == NULL) return NELI_NULL;
-    *host = NULL;
-    if (over == NULL || over->send == NULL || over->receive == NULL || over->wait == NULL) return NELI_NULL;
-    if (!is_made(host)) return NELI_MEMORY;
-    return begun(*host, family, link_open_over(&(*host)->link, port, over));
+    bool is_whole = over != NULL && over->send != NULL && over->receive != NULL && over->wait != NULL;
+    int32_t code = make(host, is_whole);
+    if (code == NELI_OK) code = link_open_over(&(*host)->link, port, over);
+    return code == NELI_OK ? neli_session_new(&(*host)->session, family, port, true) : code;
 }
 
 void neli_host_close(struct neli_host *host) {
@@ -53,7 +47,7 @@ uint32_t neli_host_port(const struct neli_host *host) {
 }
 
 int neli_host_fault(const struct neli_host *host) {
-    return host != NULL ? host->fault : 0;
+    return host != NULL ? host->link.fault : 0;
 }
 
 void neli_host_set_wait(struct neli_host *host, int milliseconds) {
@@ -69,8 +63,7 @@ void neli_host_set_keeps_unasked(struct neli_host *host, bool keeps) {
 }
 
 int32_t neli_host_set_strict(struct neli_host *host) {
-    if (host == NULL) return NELI_NULL;
-    return link_set_strict(&host->link) == NELI_OK ? NELI_OK : host_failed(host, host->link.fault);
+    return host != NULL ? link_set_strict(&host->link) : NELI_NULL;
 }
 
 void neli_host_stop(const struct neli_host *host) {
@@ -100,13 +93,13 @@ static int32_t drop_multicast(struct neli_host *host) {
         host_drop(host, NELI_READER_MULTICAST);
         if (code == NELI_OK) code = link_goes_on(&host->link, end);
     } while (code == NELI_OK);
-    if (code == NELI_WAITS) return NELI_OK;
-    return code == NELI_LINK ? host_failed(host, host->link.fault) : code;
+    return code == NELI_WAITS ? NELI_OK : code;
 }
 
 /* Whether a list with this result may be complete when it is requested again. */
 static bool is_passing(const struct neli_host *host, int32_t code, const struct neli_verdict *verdict) {
-    if (code == NELI_LINK) return host->fault != EAGAIN && host->fault != EINTR && host->fault != ECANCELED;
+    int fault = host->link.fault;
+    if (code == NELI_LINK) return fault != EAGAIN && fault != EINTR && fault != ECANCELED;
     if (code == NELI_KERNEL_ERROR) return verdict->error == -EBUSY || verdict->error == -ENOBUFS;
     return code == NELI_INTERRUPTED;
 }
@@ -130,37 +123,34 @@ static int32_t take_dump(struct neli_host *host, const struct neli_dump *dump, s
     return code == NELI_END ? judged : code;
 }
 
-static bool is_whole(const struct neli_dump *dump) {
-    return dump != NULL && dump->take != NULL && neli_is_slice(dump->body, dump->length);
-}
-
-int32_t neli_host_dump(struct neli_host *host, const struct neli_dump *dump, struct neli_message *last) {
+/* Requests lists, one after the other, and all of them again as long as that may help. */
+static int32_t take_all(struct neli_host *host, const struct neli_dump *dumps, size_t count, bool drops,
+                        struct neli_message *last) {
     struct neli_verdict verdict;
-    if (host == NULL || !is_whole(dump) || last == NULL) return NELI_NULL;
-    for (int times = 1;; times++) {
-        int32_t code = take_dump(host, dump, last, &verdict);
-        if (times >= dump->times || !is_passing(host, code, &verdict)) return code;
-    }
-}
-
-int32_t neli_host_resync(struct neli_host *host, const struct neli_dump *dump, struct neli_message *last) {
-    return neli_host_resync_all(host, dump, 1, last);
-}
-
-int32_t neli_host_resync_all(struct neli_host *host, const struct neli_dump *dumps, size_t count,
-                             struct neli_message *last) {
     if (host == NULL || count > PTRDIFF_MAX / sizeof *dumps || !neli_is_slice(dumps, count) || last == NULL)
         return NELI_NULL;
     for (size_t i = 0; i < count; i++)
-        if (!is_whole(&dumps[i])) return NELI_NULL;
-    struct neli_verdict verdict;
+        if (dumps[i].take == NULL || !neli_is_slice(dumps[i].body, dumps[i].length)) return NELI_NULL;
     for (int times = 1;; times++) {
         size_t taken = 0;
-        int32_t code = drop_multicast(host);
+        int32_t code = drops ? drop_multicast(host) : NELI_OK;
         if (code != NELI_OK) return code;
         while (taken < count && code == NELI_OK) code = take_dump(host, &dumps[taken++], last, &verdict);
         if (code == NELI_OK || times >= dumps[taken - 1].times || !is_passing(host, code, &verdict)) return code;
     }
+}
+
+int32_t neli_host_dump(struct neli_host *host, const struct neli_dump *dump, struct neli_message *last) {
+    return take_all(host, dump, 1, false, last);
+}
+
+int32_t neli_host_resync(struct neli_host *host, const struct neli_dump *dump, struct neli_message *last) {
+    return take_all(host, dump, 1, true, last);
+}
+
+int32_t neli_host_resync_all(struct neli_host *host, const struct neli_dump *dumps, size_t count,
+                             struct neli_message *last) {
+    return take_all(host, dumps, count, true, last);
 }
 
 /* ---- The item ---- */
@@ -216,7 +206,7 @@ void neli_host_explain(const struct neli_host *host, int32_t code, const struct 
         else snprintf(text, room, "error %d", answer.code);
         append_words(host, &answer, text, room);
     } else if (host != NULL && code == NELI_LINK) {
-        snprintf(text, room, "%s", strerror(host->fault));
+        snprintf(text, room, "%s", strerror(host->link.fault));
     } else if (neli_error_text(code, text, room) != NELI_OK) {
         snprintf(text, room, "code %d", code);
     }
@@ -230,8 +220,8 @@ int32_t neli_host_receive(struct neli_host *host, size_t *length, uint32_t *grou
     struct neli_received received;
     int32_t code;
     while ((code = link_receive(&host->link, &received)) == NELI_WAITS)
-        if (link_wait(&host->link, end) != NELI_OK) return host_failed(host, host->link.fault);
+        if (link_wait(&host->link, end) != NELI_OK) return NELI_LINK;
     *length = received.length;
     *group = received.group;
-    return code == NELI_LINK ? host_failed(host, host->link.fault) : code;
+    return code;
 }

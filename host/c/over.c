@@ -17,6 +17,7 @@ struct kernel {
     size_t first, count;
     int refuses;      /* the number with which the next send is refused, or 0 */
     int loses;        /* the fault that the next receive returns, or 0 */
+    bool is_long;     /* whether the next datagram is longer than its room */
     int delays;       /* so many waits it takes until something is there */
     int dump_ends;    /* so many datagrams of a dump are not received yet */
     int sent, waited; /* how often each was called */
@@ -115,6 +116,12 @@ static int receive_from(void *state, uint8_t *out, size_t room, struct neli_rece
     size_t at = kernel->first;
     kernel->loses = 0;
     if (lost != 0) return lost;
+    if (kernel->is_long) {
+        memset(out, 7, room);
+        *received = (struct neli_received){room + 64, RTNLGRP_LINK, true};
+        kernel->is_long = false;
+        return 0;
+    }
     if (kernel->delays > 0) return EINPROGRESS;
     if (kernel->count == 0) return EAGAIN;
     WANT(kernel->queue[at].length <= room);
@@ -215,6 +222,22 @@ static void faults_of_a_transport(void) {
     neli_host_close(host);
 }
 
+/* One that is longer than its room is one loss, and what comes after it is read. */
+static void a_datagram_longer_than_its_room(void) {
+    static struct kernel kernel;
+    struct neli_host *host = host_over(&kernel);
+    struct neli_message message;
+    size_t handle = send_question(host, 1);
+    kernel.is_long = true;
+    notify(&kernel, 0, 0, 8);
+    WANT(is_over(host, neli_host_next(host, NELI_MULTICAST, &message), EMSGSIZE));
+    WANT(neli_host_next(host, NELI_MULTICAST, &message) == NELI_ITEM && message.type == RTM_NEWLINK);
+    WANT(is_over(host, neli_host_next(host, NELI_MULTICAST, &message), EPIPE));
+    WANT(is_over(host, neli_host_next(host, handle, &message), EMSGSIZE));
+    WANT(neli_host_next(host, handle, &message) == NELI_END);
+    neli_host_close(host);
+}
+
 /* Where answers may come later, an answer is awaited until it has come. */
 static void answers_that_come_later(void) {
     static struct kernel kernel;
@@ -273,6 +296,7 @@ static void a_transport_has_all_functions(void) {
 static const struct test tests[] = {
     {"a_client_of_a_simulator", a_client_of_a_simulator},
     {"faults_of_a_transport", faults_of_a_transport},
+    {"a_datagram_longer_than_its_room", a_datagram_longer_than_its_room},
     {"answers_that_come_later", answers_that_come_later},
     {"a_refusal_says_what_is_missing", a_refusal_says_what_is_missing},
     {"a_transport_has_all_functions", a_transport_has_all_functions},

@@ -144,13 +144,13 @@ static void a_buffer_that_ran_over(void) {
     for (int i = 0; i < 100; i++) done(other, RTM_SETLINK, 0, link_body(1, i % 2 == 0));
     /* The open request gets the fault, or was answered before. */
     while ((code = neli_host_next(host, waiting, &message)) == NELI_ITEM) continue;
-    WANT(code == NELI_END || (code == NELI_LINK && host->fault == ENOBUFS));
+    WANT(code == NELI_END || (code == NELI_LINK && neli_host_fault(host) == ENOBUFS));
     WANT(neli_host_close_request(host, waiting) == NELI_OK);
     set_short_wait(host);
     while ((code = neli_host_next(host, NELI_MULTICAST, &message)) == NELI_ITEM ||
-           (code == NELI_LINK && host->fault == ENOBUFS))
+           (code == NELI_LINK && neli_host_fault(host) == ENOBUFS))
         lost += code == NELI_LINK;
-    WANT(code == NELI_LINK && host->fault == EAGAIN && lost == 1);
+    WANT(code == NELI_LINK && neli_host_fault(host) == EAGAIN && lost == 1);
     set_buffer(host, 1 << 20);
     WANT(count_links(host, send_dump(host)) == 1);
     done(other, RTM_SETLINK, 0, link_body(1, true));

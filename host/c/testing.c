@@ -117,5 +117,5 @@ void set_buffer(struct neli_host *host, int size) {
 }
 
 bool is_over(const struct neli_host *host, int32_t code, int fault) {
-    return code == NELI_LINK && host->fault == fault;
+    return code == NELI_LINK && neli_host_fault(host) == fault;
 }

@@ -54,14 +54,14 @@ static int32_t next(size_t handle, int wait, struct neli_message *message) {
 }
 
 static bool is_late(int32_t code) {
-    return code == NELI_LINK && host->fault == EAGAIN;
+    return code == NELI_LINK && neli_host_fault(host) == EAGAIN;
 }
 
 /* Sends a request, if there is room for one. */
 static void ask(uint16_t type, uint16_t flags, const void *body, size_t size) {
     if (count == REQUESTS) return;
     int32_t code = neli_host_send(host, type, flags, body, size, &open[count].handle);
-    if (code == NELI_LINK) printf("refused %d\n", host->fault);
+    if (code == NELI_LINK) printf("refused %d\n", neli_host_fault(host));
     if (code != NELI_OK) return;
     open[count].number = number++;
     printf("sent %u\n", open[count++].number);
@@ -126,7 +126,7 @@ static bool listen_once(int wait) {
     int32_t code = next(NELI_MULTICAST, wait, &message);
     if (code == NELI_ITEM) printf("group %u %u\n", message.number, mtu_of(&message));
     else if (is_late(code)) return false;
-    else if (code == NELI_LINK) printf("lost %d\n", host->fault);
+    else if (code == NELI_LINK) printf("lost %d\n", neli_host_fault(host));
     else printf("wrong group %d\n", code);
     return true;
 }
