@@ -105,6 +105,16 @@ pub enum SocketError {
 }
 
 impl SocketError {
+    /// The system's number, if the system refuses.
+    pub(crate) fn raw_os_error(&self) -> Option<i32> {
+        if let SocketError::Io(it) = self { it.raw_os_error() } else { None }
+    }
+
+    /// Whether it is a fault of the link, which its readers are told.
+    pub(crate) fn is_fault(&self) -> bool {
+        self.raw_os_error().is_some() || matches!(self, SocketError::Truncated { .. })
+    }
+
     /// The same error once more.
     pub(crate) fn again(&self) -> SocketError {
         match self {
@@ -309,6 +319,13 @@ carries! {
     RouterError::Socket(SocketError),
     RouterError::De(DeError),
     RouterError::Ser(SerError),
+}
+
+/// In words.
+impl From<BuildError> for RouterError {
+    fn from(error: BuildError) -> Self {
+        RouterError::new(error.to_string())
+    }
 }
 
 impl From<io::Error> for RouterError {

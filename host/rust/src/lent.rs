@@ -1,9 +1,10 @@
 //! Messages and attributes where the library keeps them: a header, and a payload whose bytes are borrowed.
 
 use crate::consts::nl::NlmF;
-use crate::err::{DeError, refused};
+use crate::err::{DeError, RouterError, refused};
 use crate::ffi;
 use crate::nl::{NlType, Nlmsghdr};
+use crate::types::Buffer;
 use crate::{FromBytes, attr::AttrNumber};
 use std::ffi::CStr;
 
@@ -65,6 +66,14 @@ impl<'b> LentMessage<'b> {
     /// The same message, copied and read as these types. Refused where its payload can't be.
     pub fn to_nlmsghdr<T: NlType, P: FromBytes>(&self) -> Result<Nlmsghdr<T, P>, DeError> {
         Nlmsghdr::of_message(self.payload, &self.head)
+    }
+
+    /// What a router says in place of an error message: the kernel's refusal, or why it can't be read.
+    pub(crate) fn to_refusal(self) -> RouterError {
+        match self.to_nlmsghdr::<u16, Buffer>().map(Nlmsghdr::into_err) {
+            Ok(refusal) => refusal.map_or(RouterError::ClosedChannel, RouterError::Nlmsgerr),
+            Err(error) => error.into(),
+        }
     }
 }
 

@@ -91,10 +91,7 @@ pub mod synchronous {
 
     /// Whether an error says that every further wait is over too: they were stopped, or nothing more can come.
     pub(crate) fn is_stop(error: &SocketError) -> bool {
-        match error {
-            SocketError::Io(error) => error.raw_os_error() == Some(CANCELED),
-            error => matches!(error, SocketError::Ended),
-        }
+        error.raw_os_error() == Some(CANCELED) || matches!(error, SocketError::Ended)
     }
 
     /// Whether an error says that a wait is over, and nothing of the socket.

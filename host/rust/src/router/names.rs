@@ -3,7 +3,7 @@
 use super::synchronous::{NlRouter, NlRouterReceiverHandle, Verdict};
 use crate::consts::genl::{CtrlAttr, CtrlAttrMcastGrp, CtrlCmd};
 use crate::consts::nl::{GenlId, NlmF};
-use crate::err::{BuildError, RouterError};
+use crate::err::RouterError;
 use crate::genl::{AttrTypeBuilder, GenlAttrHandle, Genlmsghdr, GenlmsghdrBuilder, NlattrBuilder};
 use crate::link::Link;
 use crate::nl::NlPayload;
@@ -17,26 +17,16 @@ impl<L: Link + 'static> NlRouter<L> {
         flags: NlmF,
         attributes: GenlBuffer<CtrlAttr, Buffer>,
     ) -> Result<NlRouterReceiverHandle<GenlId, Controller>, RouterError> {
-        let body = GenlmsghdrBuilder::default()
-            .cmd(CtrlCmd::Getfamily)
-            .version(2)
-            .attrs(attributes)
-            .build()
-            .map_err(|error| RouterError::new(error.to_string()))?;
+        let body = GenlmsghdrBuilder::default().cmd(CtrlCmd::Getfamily).version(2).attrs(attributes).build()?;
         self.send(GenlId::Ctrl, flags, NlPayload::Payload(body))
     }
 
     /// The bodies of the controller's replies for a family.
     fn get_genl_family(&self, name: &str) -> Result<Vec<Controller>, RouterError> {
-        let words = |error: BuildError| RouterError::new(error.to_string());
-        let kind = AttrTypeBuilder::default().nla_type(CtrlAttr::FamilyName).build().map_err(words)?;
-        let asked = NlattrBuilder::default().nla_type(kind).nla_payload(name).build().map_err(words)?;
+        let kind = AttrTypeBuilder::default().nla_type(CtrlAttr::FamilyName).build()?;
+        let asked = NlattrBuilder::default().nla_type(kind).nla_payload(name).build()?;
         let replies = self.ask_controller(NlmF::ACK, [asked].into_iter().collect())?;
-        let mut bodies = Vec::new();
-        for reply in replies {
-            bodies.extend(reply?.get_payload().cloned());
-        }
-        Ok(bodies)
+        replies.filter_map(|it| it.map(|it| it.get_payload().cloned()).transpose()).collect()
     }
 
     /// The number of a family of generic netlink.
@@ -55,14 +45,8 @@ impl<L: Link + 'static> NlRouter<L> {
     /// Refused as [`list_nl_mcast_groups`](NlRouter::list_nl_mcast_groups) is, and as [`RouterError::Msg`] if the
     /// family has no such group.
     pub fn resolve_nl_mcast_group(&self, family: &str, group: &str) -> Result<u32, RouterError> {
-        for body in self.get_genl_family(family)? {
-            for (name, id) in groups_of(&body)? {
-                if name == group {
-                    return Ok(id);
-                }
-            }
-        }
-        Err(RouterError::new(format!("no group {group} of family {family}")))
+        let found = self.list_nl_mcast_groups(family)?.into_iter().find(|(name, _)| name == group);
+        found.map(|(_, id)| id).ok_or_else(|| RouterError::new(format!("no group {group} of family {family}")))
     }
 
     /// The multicast groups of a family of generic netlink, by name and number.
@@ -71,11 +55,7 @@ impl<L: Link + 'static> NlRouter<L> {
     /// [`RouterError::De`] if a reply's groups can't be read; and as [`NlRouter::send`] and
     /// [`NlRouterReceiverHandle::next_typed`] are.
     pub fn list_nl_mcast_groups(&self, family: &str) -> Result<Vec<(String, u32)>, RouterError> {
-        let mut groups = Vec::new();
-        for body in self.get_genl_family(family)? {
-            groups.extend(groups_of(&body)?);
-        }
-        Ok(groups)
+        Ok(self.get_genl_family(family)?.iter().map(groups_of).collect::<Result<Vec<_>, _>>()?.concat())
     }
 
     /// The names of the family and the group of generic netlink for this number of a group.
@@ -106,11 +86,10 @@ fn groups_of(body: &Controller) -> Result<Vec<(String, u32)>, RouterError> {
     let attributes = body.attrs().get_attr_handle();
     let Some(list) = attributes.get_attribute(CtrlAttr::McastGroups) else { return Ok(Vec::new()) };
     let groups: GenlAttrHandle<'_, u16> = list.get_attr_handle()?;
-    let mut found = Vec::new();
-    for group in groups.iter() {
+    let names = groups.iter().map(|group| {
         let fields = group.get_attr_handle::<CtrlAttrMcastGrp>()?;
         let name = fields.get_attr_payload_as_with_len(CtrlAttrMcastGrp::Name)?;
-        found.push((name, fields.get_attr_payload_as(CtrlAttrMcastGrp::Id)?));
-    }
-    Ok(found)
+        Ok((name, fields.get_attr_payload_as(CtrlAttrMcastGrp::Id)?))
+    });
+    names.collect()
 }

@@ -31,9 +31,6 @@ pub enum Missed {
 impl Missed {
     /// The loss for a socket's fault.
     pub(super) fn of(error: SocketError) -> Self {
-        match error {
-            SocketError::Io(error) if error.raw_os_error() == Some(OVERRUN) => Missed::Overrun,
-            error => Missed::Fault(error),
-        }
+        if error.raw_os_error() == Some(OVERRUN) { Missed::Overrun } else { Missed::Fault(error) }
     }
 }

@@ -17,13 +17,6 @@ pub(super) struct Shared {
     state: Mutex<State>,
 }
 
-/// What became of what could be sent: the caller's own is refused, if the link refused that.
-enum Flushed {
-    Nothing,
-    Something,
-    Refused(SocketError),
-}
-
 impl Shared {
     pub(super) fn over(link: Arc<dyn Link>) -> Result<Self, RouterError> {
         let state = Mutex::new(State::new(Arc::clone(&link))?);
@@ -47,58 +40,52 @@ impl Shared {
         let mut state = self.state();
         let first = state.number;
         let readers = state.queue(requests)?;
-        let (mut state, flushed) = self.flush(state, Some(first));
-        let Flushed::Refused(error) = flushed else { return Ok(readers) };
-        readers.iter().for_each(|it| state.close(*it));
-        Err(error.into())
+        if let Err(error) = self.flush(state, Some(first)) {
+            readers.iter().for_each(|it| self.state().close(*it));
+            return Err(error.into());
+        }
+        Ok(readers)
     }
 
-    /// Sends what may go out. Where that was something, others may have changed the state meanwhile. The caller's own
-    /// is the datagram that begins with this request.
-    fn flush<'s>(&'s self, mut state: Locked<'s>, first: Option<u32>) -> (Locked<'s>, Flushed) {
-        let mut flushed = Flushed::Nothing;
+    /// Sends what may go out, and returns whether that was anything; others may have changed the state then. It is
+    /// refused if the link refuses the caller's own datagram, which begins with this request.
+    fn flush<'s>(&'s self, mut state: Locked<'s>, own: Option<u32>) -> Result<(Locked<'s>, bool), SocketError> {
+        let (mut has_sent, mut flushed) = (false, Ok(()));
         while let Some(datagram) = state.begin_send() {
             drop(state);
             let sent = self.link.send(&datagram);
             state = self.state();
-            let is_own = first.is_some_and(|it| datagram[8..12] == it.to_ne_bytes());
-            if !is_own {
+            has_sent = true;
+            let ended = state.end_send(sent);
+            if own.is_some_and(|it| datagram[8..12] == it.to_ne_bytes()) {
+                flushed = ended;
+            } else {
                 // Who waits for its answer saw the link empty before: it learns so whether nothing comes.
                 state.wake_watcher();
             }
-            match state.end_send(sent) {
-                Some(error) if is_own => flushed = Flushed::Refused(error),
-                _ if matches!(flushed, Flushed::Nothing) => flushed = Flushed::Something,
-                _ => {}
-            }
         }
-        (state, flushed)
+        flushed.map(|()| (state, has_sent))
     }
 
     /// Receives once, and sends what may go out then: returns whether it did anything. If not, the lock was held.
-    fn turn<'s>(&'s self, mut state: Locked<'s>) -> (Locked<'s>, Result<bool, RouterError>) {
-        let has_come = match state.receive() {
-            Ok(has_come) => has_come,
-            Err(error) => return (state, Err(error)),
-        };
-        let (state, flushed) = self.flush(state, None);
-        (state, Ok(has_come || !matches!(flushed, Flushed::Nothing)))
+    fn turn<'s>(&'s self, mut state: Locked<'s>) -> Result<(Locked<'s>, bool), RouterError> {
+        let has_come = state.receive()?;
+        let (state, has_sent) = self.flush(state, None)?;
+        Ok((state, has_come || has_sent))
     }
 
     /// Takes in all that has arrived, and does this to the state after each.
     pub(super) fn receive_all(&self, each: impl Fn(&mut State)) -> Result<(), RouterError> {
         let wait = Wait::begin(self.link.limit());
-        let mut state = self.state();
-        loop {
-            let turned;
-            (state, turned) = self.turn(state);
-            each(&mut state);
-            if !turned? {
-                return Ok(());
-            }
+        let (mut state, mut goes_on) = self.turn(self.state())?;
+        each(&mut state);
+        while goes_on {
             state.want_link()?;
             wait.goes_on()?;
+            (state, goes_on) = self.turn(state)?;
+            each(&mut state);
         }
+        Ok(())
     }
 
     /// What `take` takes of a reader's next item, or of its end. It waits until one arrives.
@@ -107,49 +94,46 @@ impl Shared {
         reader: Reader,
         take: impl Fn(&mut State, Reader) -> Option<Result<T, RouterError>>,
     ) -> Result<T, RouterError> {
-        let wait = Wait::begin(self.link.limit());
-        let mut state = self.state();
-        let mut has_come = None;
-        let next = loop {
-            if let Some(next) = take(&mut state, reader) {
-                break next;
-            }
-            let goes_on;
-            (state, goes_on) = match has_come {
-                Some(false) => self.wait(state, reader, &wait),
-                Some(true) => match state.want_link().and_then(|()| Ok(wait.goes_on()?)) {
-                    Ok(()) => self.turn(state),
-                    Err(error) => break Err(error),
-                },
-                None => self.turn(state),
-            };
-            has_come = match goes_on {
-                Ok(it) => Some(it),
-                Err(error) => break Err(error),
-            };
-        };
-        state.pass_on_watch();
+        if let Some(next) = take(&mut self.state(), reader) {
+            return next;
+        }
+        let next = self.wait_for(reader, take);
+        self.state().pass_on_watch();
         next
     }
 
-    /// Waits until something has arrived for a reader, or at the link; refused if the wait has ended.
-    fn wait<'s>(
-        &'s self,
-        mut state: Locked<'s>,
+    fn wait_for<T>(
+        &self,
         reader: Reader,
-        wait: &Wait,
-    ) -> (Locked<'s>, Result<bool, RouterError>) {
-        let left = match wait.left() {
-            Ok(left) => left,
-            Err(error) => return (state, Err(error.into())),
-        };
+        take: impl Fn(&mut State, Reader) -> Option<Result<T, RouterError>>,
+    ) -> Result<T, RouterError> {
+        let wait = Wait::begin(self.link.limit());
+        let (mut state, mut goes_on) = self.turn(self.state())?;
+        loop {
+            if let Some(next) = take(&mut state, reader) {
+                return next;
+            }
+            (state, goes_on) = if goes_on {
+                state.want_link()?;
+                wait.goes_on()?;
+                self.turn(state)?
+            } else {
+                (self.wait(state, reader, &wait)?, true)
+            };
+        }
+    }
+
+    /// Waits until something has arrived for a reader, or at the link; refused if the wait has ended.
+    fn wait<'s>(&'s self, mut state: Locked<'s>, reader: Reader, wait: &Wait) -> Result<Locked<'s>, RouterError> {
+        let left = wait.left()?;
         if state.watcher.is_none() {
             state.watcher = Some(reader);
             drop(state);
             let waited = self.link.wait(left);
             state = self.state();
-            state.end_watch();
-            return (state, waited.map(|()| true).map_err(RouterError::Socket));
+            state.watcher = None;
+            waited?;
+            return Ok(state);
         }
         let bell = Arc::new(Condvar::new());
         state.bells.insert(reader, Arc::clone(&bell));
@@ -158,6 +142,6 @@ impl Shared {
             None => bell.wait(state).unwrap_or_else(PoisonError::into_inner),
         };
         state.bells.remove(&reader);
-        (state, Ok(true))
+        Ok(state)
     }
 }

@@ -7,7 +7,6 @@ use crate::ffi::{self, Reader};
 use crate::lent::LentMessage;
 use crate::link::{Arrived, Link};
 use crate::nl::message_with;
-use crate::types::Buffer;
 use std::collections::HashMap;
 use std::io;
 use std::ops::Range;
@@ -47,10 +46,8 @@ pub(super) struct State {
     /// What the link has reported without a number of the system: each lost datagram that was cut, and each request
     /// that was not sent.
     others: Vec<SocketError>,
-    /// The reader that waits at the link, if one does; and whether it was woken.
+    /// The reader that waits at the link, if one does, and the bells of the others that wait.
     pub(super) watcher: Option<Reader>,
-    is_woken: bool,
-    /// The bells of the other readers that wait.
     pub(super) bells: HashMap<Reader, Arc<Condvar>>,
 }
 
@@ -70,7 +67,6 @@ impl State {
             faults: 0,
             others: Vec::new(),
             watcher: None,
-            is_woken: false,
             bells: HashMap::new(),
         })
     }
@@ -88,12 +84,9 @@ impl State {
             readers.push(Reader::Request(number));
             number = number.wrapping_add(1);
         }
-        match self.session.send_all(&datagram) {
-            ffi::END => self.number = number,
-            ffi::IN_USE => return Err(RouterError::SeqInUse),
-            ffi::KIND => return Err(RouterError::new("two dumps in one datagram")),
-            code => return Err(self.error(code, 0)),
-        }
+        let code = self.session.send_all(&datagram);
+        self.done(code)?;
+        self.number = number;
         self.is_blocked = false;
         Ok(readers)
     }
@@ -108,8 +101,8 @@ impl State {
         Some(datagram)
     }
 
-    /// Notes what became of it, and returns why it was not sent.
-    pub(super) fn end_send(&mut self, sent: Result<(), SocketError>) -> Option<SocketError> {
+    /// Notes what became of it; refused if it was not sent, and will not be.
+    pub(super) fn end_send(&mut self, sent: Result<(), SocketError>) -> Result<(), SocketError> {
         self.is_sending = false;
         match sent {
             Ok(()) => self.session.sent(),
@@ -118,57 +111,20 @@ impl State {
                 let number = self.number_of(error);
                 self.session.not_sent(number);
                 self.ring();
-                return Some(self.fault_of(number));
+                return Err(self.fault_of(number));
             }
         }
-        None
+        Ok(())
     }
 
     // ---- What arrives
 
-    /// Takes in the next datagram or fault, and wakes its readers; false if none has arrived.
+    /// Takes in the next datagram or fault, and wakes its readers; false if none has arrived. If the library has no
+    /// memory, the rest stays held.
     pub(super) fn receive(&mut self) -> Result<bool, RouterError> {
         if self.held.is_none() {
-            self.held = match self.link.receive(&mut self.room) {
-                Ok(Some(Arrived { length, group })) => Some(self.datagram(length, group)),
-                Ok(None) => {
-                    self.faults = 0;
-                    if !self.link.answers_later() {
-                        self.session.quiet();
-                    }
-                    self.ring();
-                    return Ok(false);
-                }
-                Err(error) if is_fault(&error) => {
-                    self.fault = self.number_of(error);
-                    self.faults += 1;
-                    Some(Held::Fault(self.fault))
-                }
-                Err(error) => return Err(error.into()),
-            };
+            self.held = self.arrived()?;
         }
-        self.take_in()?;
-        self.is_blocked = false;
-        if !self.keeps_unasked {
-            self.pass_all(Reader::Unasked);
-        }
-        self.ring();
-        Ok(true)
-    }
-
-    /// The datagram in the room. The kernel sends the notification of an own change in a group's name, whether or not
-    /// the socket is in that group.
-    fn datagram(&mut self, length: usize, group: u32) -> Held {
-        self.faults = 0;
-        let end = completed(&mut self.room, length);
-        let port = self.link.port();
-        let is_own = group != 0 && ffi::messages(&self.room[..end]).any(|(_, it)| it.port == port);
-        let is_joined = is_own && self.link.memberships().is_ok_and(|it| it.is_set(group as usize));
-        Held::Datagram { rest: 0..end, group, is_joined }
-    }
-
-    /// Takes in what is held. If the library has no memory, the rest stays held.
-    fn take_in(&mut self) -> Result<(), RouterError> {
         let code = match &mut self.held {
             None => ffi::END,
             Some(Held::Fault(number)) => self.session.fault(*number),
@@ -178,11 +134,43 @@ impl State {
                 code
             }
         };
-        if code != ffi::END {
-            return Err(self.error(code, 0));
+        self.done(code)?;
+        let has_come = self.held.take().is_some();
+        if has_come {
+            self.is_blocked = false;
+        } else if !self.link.answers_later() {
+            self.session.quiet();
         }
-        self.held = None;
-        Ok(())
+        if !self.keeps_unasked {
+            self.pass_all(Reader::Unasked);
+        }
+        self.ring();
+        Ok(has_come)
+    }
+
+    /// The next datagram, in the room, or a fault; none if neither has arrived.
+    fn arrived(&mut self) -> Result<Option<Held>, RouterError> {
+        match self.link.receive(&mut self.room) {
+            Err(error) if error.is_fault() => {
+                self.fault = self.number_of(error);
+                self.faults += 1;
+                Ok(Some(Held::Fault(self.fault)))
+            }
+            arrived => {
+                self.faults = 0;
+                Ok(arrived?.map(|it| self.datagram(it)))
+            }
+        }
+    }
+
+    /// The datagram in the room. The kernel sends the notification of an own change in a group's name, whether or not
+    /// the socket is in that group.
+    fn datagram(&mut self, Arrived { length, group }: Arrived) -> Held {
+        let end = completed(&mut self.room, length);
+        let port = self.link.port();
+        let is_own = group != 0 && ffi::messages(&self.room[..end]).any(|(_, it)| it.port == port);
+        let is_joined = is_own && self.link.memberships().is_ok_and(|it| it.is_set(group as usize));
+        Held::Datagram { rest: 0..end, group, is_joined }
     }
 
     /// Refused as the latest fault, if there were so many that the link is gone.
@@ -192,13 +180,10 @@ impl State {
 
     /// The number of a fault for the session: the system's, or below 0 its place among the others.
     fn number_of(&mut self, error: SocketError) -> i32 {
-        if let SocketError::Io(it) = &error {
-            if let Some(number) = it.raw_os_error() {
-                return number;
-            }
-        }
-        self.others.push(error);
-        -(self.others.len() as i32)
+        error.raw_os_error().unwrap_or_else(|| {
+            self.others.push(error);
+            -(self.others.len() as i32)
+        })
     }
 
     fn fault_of(&self, number: i32) -> SocketError {
@@ -210,29 +195,21 @@ impl State {
 
     /// Wakes the readers that have something.
     fn ring(&mut self) {
-        let waiting: Vec<Reader> = self.bells.keys().copied().chain(self.watcher).collect();
-        for reader in waiting {
-            if self.session.next(reader).0 == ffi::WAITS {
-                continue;
-            }
-            match self.bells.get(&reader) {
-                Some(bell) => bell.notify_one(),
-                None => self.wake_watcher(),
+        for (reader, bell) in &self.bells {
+            if self.session.next(*reader).0 != ffi::WAITS {
+                bell.notify_one();
             }
         }
-    }
-
-    /// Has the reader that waits at the link, if one does, look once more.
-    pub(super) fn wake_watcher(&mut self) {
-        if self.watcher.is_some() && !std::mem::replace(&mut self.is_woken, true) {
+        if self.watcher.is_some_and(|it| self.session.next(it).0 != ffi::WAITS) {
             self.link.wake();
         }
     }
 
-    /// No reader waits at the link now.
-    pub(super) fn end_watch(&mut self) {
-        self.watcher = None;
-        self.is_woken = false;
+    /// Has the reader that waits at the link, if one does, look once more.
+    pub(super) fn wake_watcher(&self) {
+        if self.watcher.is_some() {
+            self.link.wake();
+        }
     }
 
     /// Wakes another reader to watch the link, if none does.
@@ -244,39 +221,27 @@ impl State {
 
     // ---- What is read
 
-    /// The code of a reader's next item, or of the end; none if it waits. An error in an item's place is passed.
-    fn next(&mut self, reader: Reader) -> Option<Result<i32, RouterError>> {
-        match self.session.next(reader) {
-            (ffi::WAITS, _) => None,
-            (code @ (ffi::END | ffi::ITEM | ffi::KERNEL_ERROR), _) => Some(Ok(code)),
-            (code, number) => {
-                self.pass(reader);
-                Some(Err(self.error(code, number)))
-            }
-        }
+    /// Whether a reader has a next item, which `lent` returns and which stays, or its end has come; none if it waits.
+    /// What is in an item's place is passed: a loss, or the kernel's refusal of a request.
+    pub(super) fn lend(&mut self, reader: Reader) -> Option<Result<bool, RouterError>> {
+        let error = match self.session.next(reader) {
+            (ffi::WAITS, _) => return None,
+            (code @ (ffi::END | ffi::ITEM), _) => return Some(Ok(code == ffi::ITEM)),
+            (ffi::KERNEL_ERROR, _) => self.lent()?.to_refusal(),
+            (code, number) => self.error(code, number),
+        };
+        self.pass(reader);
+        Some(Err(error))
     }
 
-    /// Reads the next item, or the end; or returns none if it waits.
+    /// Reads the next item, or the end; none if it waits.
     pub(super) fn read(&mut self, reader: Reader) -> Option<Result<Option<Owned>, RouterError>> {
-        let code = self.next(reader)?;
+        let has_item = self.lend(reader)?;
         let owned = self.session.lent().map(|(head, payload)| (*head, payload.to_vec()));
         if owned.is_some() {
             self.pass(reader);
         }
-        Some(code.map(|_| owned))
-    }
-
-    /// Lends the next item, which `lent` returns and which stays; false at the end. A kernel's refusal is passed.
-    pub(super) fn lend(&mut self, reader: Reader) -> Option<Result<bool, RouterError>> {
-        match self.next(reader)? {
-            Ok(ffi::KERNEL_ERROR) => {
-                let refusal = self.lent()?.to_nlmsghdr::<u16, Buffer>();
-                self.pass(reader);
-                let error = refusal.map_err(RouterError::De).map(|it| it.into_err().map(RouterError::Nlmsgerr));
-                Some(error.and_then(|it| it.map_or(Ok(false), Err)))
-            }
-            code => Some(code.map(|it| it == ffi::ITEM)),
-        }
+        Some(has_item.map(|_| owned))
     }
 
     /// The item that was lent by the last call.
@@ -320,21 +285,19 @@ impl State {
         !std::mem::replace(&mut self.keeps_unasked, true)
     }
 
+    fn done(&self, code: i32) -> Result<(), RouterError> {
+        if code == ffi::END { Ok(()) } else { Err(self.error(code, 0)) }
+    }
+
     fn error(&self, code: i32, number: i32) -> RouterError {
         match code {
             ffi::MEMORY => RouterError::Memory,
             ffi::HANDLE => RouterError::ClosedChannel,
+            ffi::IN_USE => RouterError::SeqInUse,
+            ffi::KIND => RouterError::new("two dumps in one datagram"),
             ffi::LINK => self.fault_of(number).into(),
             code => RouterError::De(refused(code).into()),
         }
-    }
-}
-
-/// Whether it is a fault of the link, which its readers are told.
-fn is_fault(error: &SocketError) -> bool {
-    match error {
-        SocketError::Io(error) => error.raw_os_error().is_some(),
-        error => matches!(error, SocketError::Truncated { .. }),
     }
 }
 

@@ -225,13 +225,7 @@ impl<L: Link + 'static> NlRouter<L> {
         times: usize,
     ) -> Result<Dump<RT, RP>, RouterError> {
         let (kind, body) = (nl_type.into(), nl_payload.body()?);
-        let mut dump = dump_once(&self.shared, kind, nl_flags, &body)?;
-        let mut left = times.max(1) - 1;
-        while left > 0 && dump.is_passing() {
-            dump = dump_once(&self.shared, kind, nl_flags, &body)?;
-            left -= 1;
-        }
-        Ok(dump)
+        repeated(times, || dump_once(&self.shared, kind, nl_flags, &body))
     }
 
     /// The handle of messages that the kernel sends to the socket's own port without a request, as the packets of a
@@ -304,17 +298,11 @@ impl<T, P> NlRouterReceiverHandle<T, P> {
     fn typed<TT: NlType, PP: FromBytes>(&mut self, read: Result<Owned, RouterError>) -> Reply<TT, PP> {
         let (head, payload) = read?;
         let is_answer = matches!(self.reader, Reader::Request(_));
-        self.is_filtered |= is_answer && NlmF::from_bits_retain(head.flags).contains(NlmF::DUMP_FILTERED);
-        match Nlmsghdr::of_message(&payload, &head) {
-            Ok(message) if is_answer && message.get_err().is_some() => {
-                message.into_err().map_or(Err(RouterError::ClosedChannel), |it| Err(RouterError::Nlmsgerr(it)))
-            }
-            Ok(message) => Ok(message),
-            Err(error) => {
-                self.spoilt = Some(self.verdict().unreadable());
-                Err(error.into())
-            }
-        }
+        self.is_filtered |= is_answer && head.flags & NlmF::DUMP_FILTERED.bits() != 0;
+        Nlmsghdr::of_message(&payload, &head).map_err(|error| {
+            self.spoilt = is_answer.then(|| self.verdict().unreadable());
+            error.into()
+        })
     }
 
     /// The next notice from multicast, read as these types: a message that can't be read as them is returned as it
@@ -344,10 +332,7 @@ impl<T, P> NlRouterReceiverHandle<T, P> {
     ///
     /// To call this after a loop, lend the iterator to the loop: `for reply in &mut replies`.
     pub fn verdict(&self) -> Verdict {
-        match self.reader {
-            Reader::Request(_) => self.spoilt.unwrap_or_else(|| self.shared.state().verdict(self.reader)),
-            Reader::Multicast | Reader::Unasked => Verdict::Pending,
-        }
+        self.spoilt.unwrap_or_else(|| self.shared.state().verdict(self.reader))
     }
 
     /// Whether a returned message states that the kernel filtered as requested, by the flag `NLM_F_DUMP_FILTERED`. A
@@ -373,18 +358,27 @@ impl<T, P> NlRouterReceiverHandle<T, P> {
             return Err(RouterError::ClosedChannel);
         }
         let (kind, body) = (nl_type.into(), nl_payload.body()?);
-        for left in (0..times.max(1)).rev() {
+        let dump = repeated(times, || {
             self.shared.receive_all(|state| state.pass_all(Reader::Multicast))?;
-            let dump = dump_once(&self.shared, kind, NlmF::empty(), &body)?;
-            if dump.verdict == Verdict::Complete {
-                return Ok(dump.messages);
-            }
-            if left == 0 || !dump.is_passing() {
-                return Err(dump.into_error());
-            }
-        }
-        Err(RouterError::ClosedChannel)
+            dump_once(&self.shared, kind, NlmF::empty(), &body)
+        })?;
+        if dump.verdict == Verdict::Complete { Ok(dump.messages) } else { Err(dump.into_error()) }
     }
+}
+
+/// Requests a dump, and again as long as that may help, at most so many times.
+fn repeated<T, P>(
+    times: usize,
+    mut once: impl FnMut() -> Result<Dump<T, P>, RouterError>,
+) -> Result<Dump<T, P>, RouterError> {
+    let mut dump = once()?;
+    for _ in 1..times {
+        if !dump.is_passing() {
+            break;
+        }
+        dump = once()?;
+    }
+    Ok(dump)
 }
 
 /// Requests a dump once, and reads it to its end. Refused if the wait ends or memory runs out, since it has not ended
