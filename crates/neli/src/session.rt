@@ -34,8 +34,9 @@ pub use neli_session::{Answering, Loss, Next, Reader, SendError, Session, Untake
 pub mod laws {
     pub use neli_session::laws::{
         answers_are_read, complete_answers_are_whole, datagrams_are_happenings,
-        datagrams_go_out_in_order, multicast_is_read, numbers_stay_in_use, one_dump_runs,
-        reads_are_the_answer, regrouping_changes_nothing, sent_numbers_were_free, unasked_are_read,
+        datagrams_go_out_in_order, dumps_take_turns, multicast_is_read, numbers_stay_in_use,
+        one_dump_runs, reads_are_noted, reads_are_the_answer, regrouping_changes_nothing,
+        requests_are_followed, sent_numbers_were_free, stages_follow, unasked_are_read,
         whole_answers_are_complete,
     };
 }

@@ -8,7 +8,7 @@ use Rattle.neli_session.specs.declared.change.Change.TheVariants as change
 use Rattle.neli_session.specs.declared.loss.Loss.TheVariants as loss
 use Rattle.neli_session.specs.declared.request.Request.{Request}
 use Rattle.neli_session.specs.declared.session.Session.{Session}
-use Rattle.neli_session.specs.Histories.{Ask, Call, Close, CloseMulticast, Fault, IsHistory, IsNew, IsOfOne, IsReceived}
+use Rattle.neli_session.specs.Histories.{Ask, BeginsAlone, Call, Close, CloseMulticast, Fault, IsHistory, IsNew, IsOfOne, IsReceived}
 use Rattle.neli_session.specs.Histories.{IsStep, Moment, NotSent, Outgoing, PassAnswer, PassMulticast, PassUnasked}
 use Rattle.neli_session.specs.Histories.{Quiet, Receive, Send, Sent, last}
 use Rattle.neli_session.specs.Messages.{messages_of}
@@ -18,7 +18,7 @@ use Rattle.neli_session.specs.Sessions.{after_all, among, at, closed_at, passed_
 use Rattle.neli_session.proofs.Later.{IsLater, later-all, later-among, later-closed, later-lost, later-passed}
 use Rattle.neli_session.proofs.Later.{later-same, later-sent, later-twice, later-unsent}
 use Rattle.neli_session.proofs.Soundness.{IsSound, sent-goes, sound-at-first, sound-gone, sound-later, sound-outgoing}
-use Rattle.neli_session.proofs.Soundness.{sound-quiet, sound-send, unsent-goes}
+use Rattle.neli_session.proofs.Soundness.{sound-quiet, sound-send, turn-outgoing, unsent-goes}
 
 abbrev pub IsSoundSession : Session → Type 0
 IsSoundSession s = IsSound (at s.requests) s.awaited.items s.outbox.items s.leaving s.running
@@ -148,3 +148,11 @@ pub one-dump-runs : (s : Session) (ms : List Moment) → IsNew s → IsHistory s
 one-dump-runs s ms new history p q one two =
     let sound : IsSoundSession (last s ms) = history-sound ms s history (new-sound s new) in
     some-same p q (sym (sound.runs p one) ∙ sound.runs q two)
+
+pub dumps_take_turns : (s t : Session) (ms : List Moment) (p : Mail) (n : ℕ) → IsNew s → IsHistory s ms
+    → IsStep (Outgoing (Some p)) (last s ms) t → p.dump ≡ Some n → BeginsAlone n (last s ms) t
+dumps_take_turns s t ms p n new history (next, leaving, outbox, running, requests, same) is =
+    let old : Session = last s ms in
+    let both = turn-outgoing (at old.requests) (at t.requests) old.awaited.items old.outbox.items old.leaving
+    old.running old.is_congested p n (history-sound ms s history (new-sound s new)) next requests is in
+    record { alone = both.0; begins = both.1 }

@@ -18,7 +18,8 @@ use Rattle.neli_session.specs.declared.request.Stage.TheVariants as stage
 use Rattle.neli_session.specs.declared.session.Session.{Session}
 use Rattle.neli_session.specs.Happenings.{Came, Changed, Happening, Read, after_happenings, answer, came_for, item_list}
 use Rattle.neli_session.specs.Happenings.{left, returned_by, then_is}
-use Rattle.neli_session.specs.Histories.{Ask, Call, Close, CloseMulticast, Fault, HasSent, IsHistory, IsReceived}
+use Rattle.neli_session.specs.Histories.{Ask, Call, Close, CloseMulticast, Fault, HasSent, IsFollowed, IsHistory}
+use Rattle.neli_session.specs.Histories.{IsReceived}
 use Rattle.neli_session.specs.Histories.{IsStep, Moment, NotSent, Outgoing, PassAnswer, PassMulticast, PassUnasked}
 use Rattle.neli_session.specs.Histories.{Quiet, Receive, Send, Sent, closes, happenings, happens, if_so, is_closed}
 use Rattle.neli_session.specs.Histories.{is_in, last, next_at, passes, read_of}
@@ -419,11 +420,6 @@ same-happenings q s t ms port protocol P is =
     subst (λ (f : NlFamily). P (happenings f t.port q ms)) protocol
     (subst (λ (p : ℕ). P (happenings s.protocol p q ms)) port is)
 
--- how the request is then, and what its reads returned
-pub record IsFollowed (q : ℕ) (s : Session) (ms : List Moment) (hs : List Happening) (r : Request) : Type 0 where
-  pub is : at (last s ms).requests q ≡ Some (after_happenings hs r)
-  pub read : read_of q s ms ≡ returned_by hs r
-
 pub followed : (ms : List Moment) (s : Session) (q : ℕ) (r : Request) → IsHistory s ms → IsSoundSession s
     → at s.requests q ≡ Some r → r.is_open ≡ true → is_closed q ms ≡ false
     → IsFollowed q s ms (happenings s.protocol s.port q ms) r
@@ -512,6 +508,17 @@ module _ (s t : Session) (by : Option Answering) (bytes : List ℕ) (m : Lent �
       ≡ Some (queued (answering_by p by m) (has_all 8 m.0.flags))) (history-protocol was.calls s was.came)
       (sent-queued (last s was.calls) t by bytes was.one.0 was.one.1 m was.sent was.one.2)
 
+pub requests_followed : (s t : Session) (by : Option Answering) (bytes : List ℕ) (m : Lent ℕ) (later : List Moment)
+    → HasSent s by bytes m t → IsHistory t later → is_closed m.0.sequence_number later ≡ false
+    → IsFollowed m.0.sequence_number t later (happenings s.protocol s.port m.0.sequence_number later)
+    (queued (answering_by s.protocol by m) (has_all 8 m.0.flags))
+requests_followed s t by bytes m later was came stays =
+    let r : Request = queued (answering_by s.protocol by m) (has_all 8 m.0.flags) in
+    let q : ℕ = m.0.sequence_number in
+    same-happenings q t s later (sent-port s t by bytes m was) (sent-protocol s t by bytes m was)
+    (λ gs. IsFollowed q t later gs r)
+    (followed later t q r came (sent-sound s t by bytes m was) (sent-at s t by bytes m was) refl stays)
+
 pub answers-are-read : (s t : Session) (by : Option Answering) (bytes : List ℕ) (m : Lent ℕ) (later : List Moment)
     → HasSent s by bytes m t → IsHistory t later → is_closed m.0.sequence_number later ≡ false
     → (r : Request) × (at (last t later).requests m.0.sequence_number ≡ Some r)
@@ -521,12 +528,8 @@ pub answers-are-read : (s t : Session) (by : Option Answering) (bytes : List ℕ
 answers-are-read s t by bytes m later was came stays =
     let a : Answering = answering_by s.protocol by m in
     let e : Bool = has_all 8 m.0.flags in
-    let q : ℕ = m.0.sequence_number in
-    let hs : List Happening = happenings s.protocol s.port q later in
-    let is : IsFollowed q t later hs (queued a e) =
-    same-happenings q t s later (sent-port s t by bytes m was) (sent-protocol s t by bytes m was)
-    (λ gs. IsFollowed q t later gs (queued a e))
-    (followed later t q (queued a e) came (sent-sound s t by bytes m was) (sent-at s t by bytes m was) refl stays) in (
+    let hs : List Happening = happenings s.protocol s.port m.0.sequence_number later in
+    let is = requests_followed s t by bytes m later was came stays in (
       after_happenings hs (queued a e),
       is.is,
       ap (λ (xs : List Item). xs ++ left (after_happenings hs (queued a e))) is.read ∙ reads-answer a e hs,

@@ -1,6 +1,6 @@
 -- What may happen to a request after it was sent: it waits no more than before, and is awaited no more.
-use Rattle.std.proofs.Common.{ℕ, ℤ, ◌≡◌, Bool, true, false, not, ◌&&◌, ◌||◌, List, [], ◌∷◌, Option, Some, None, refl}
-use Rattle.std.proofs.Common.{sym, subst, ap, ◌∙◌}
+use Rattle.std.proofs.Common.{ℕ, ℤ, ◌≡◌, ◌≤◌, Bool, true, false, not, ◌&&◌, ◌||◌, List, [], ◌∷◌, Option, Some, None, refl}
+use Rattle.std.proofs.Common.{arith, sym, subst, ap, ◌∙◌}
 use Rattle.std.specs.Prelude.{◌==◌, if◌then◌else◌, option_map}
 use Rattle.neli_answers.specs.Answers.{ends_answer}
 use Rattle.neli_answers.specs.declared.answering.Answering.{Answering}
@@ -115,10 +115,18 @@ pub record IsLater (o o' : Option Request) : Type 0 where
   pub leaving : is_leaving o' ≡ true → is_leaving o ≡ true
   pub pending : is_pending o' ≡ true → is_pending o ≡ true
   pub dump : has_dump o' ≡ true → has_dump o ≡ true
+  pub carries : 1 ≤ times_queued o → has_dump o ≡ true → has_dump o' ≡ true
   pub runs : is_running o' ≡ true → is_running o ≡ true
 
 pub later-same : (o : Option Request) → IsLater o o
-later-same o = record { queued = refl; leaving = λ h. h; pending = λ h. h; dump = λ h. h; runs = λ h. h }
+later-same o = record {
+  queued = refl;
+  leaving = λ h. h;
+  pending = λ h. h;
+  dump = λ h. h;
+  carries = λ n h. h;
+  runs = λ h. h;
+}
 
 pub later-twice : (o p q : Option Request) → IsLater o p → IsLater p q → IsLater o q
 later-twice o p q one two = record {
@@ -126,6 +134,7 @@ later-twice o p q one two = record {
   leaving = λ h. one.leaving (two.leaving h);
   pending = λ h. one.pending (two.pending h);
   dump = λ h. one.dump (two.dump h);
+  carries = λ n h. two.carries (let same = one.queued in omega (arith, same, n)) (one.carries n h);
   runs = λ h. one.runs (two.runs h);
 }
 
@@ -136,6 +145,7 @@ later-stage r r' same by = record {
   leaving = by.leaving;
   pending = by.pending;
   dump = λ h. ap (λ (a : Answering). is_dump a) (sym same) ∙ h;
+  carries = λ n h. ap (λ (a : Answering). is_dump a) same ∙ h;
   runs = λ h. ap (λ (b : Bool). is_dump r.answering && b) (by.awaited (both-true (is_dump r'.answering)
       (is_awaited r'.stage) h).1)
       ∙ and-same (is_dump r.answering) (ap (λ (a : Answering). is_dump a) (sym same)
@@ -164,6 +174,8 @@ later-kept (Some r) = go (is_over r.stage && not r.is_open) refl
       leaving = λ n. no-truth n;
       pending = λ n. no-truth n;
       dump = λ n. no-truth n;
+      carries = λ n h. let none = over r.stage (both-true (is_over r.stage) (not r.is_open) is).0 in
+          elim (let no : ⊥ = omega (arith, none, n) in no) [ ];
       runs = λ n. no-truth n;
     }
     go false is = later-same (Some r)

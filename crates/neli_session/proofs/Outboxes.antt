@@ -1,6 +1,6 @@
 -- The datagrams that wait: which numbers are in them, and what goes out.
 use Rattle.std.proofs.Common.{ℕ, ◌≡◌, ◌+◌, ◌≤◌, Bool, true, false, ◌||◌, List, [], ◌∷◌, ◌++◌, length, Option, Some}
-use Rattle.std.proofs.Common.{None, arith, refl, sym, subst, ap, ◌∙◌, eqb-true}
+use Rattle.std.proofs.Common.{None, arith, refl, sym, subst, ap, ◌∙◌, eqb-true, eq-eqb}
 use Rattle.std.specs.Prelude.{◌==◌, if◌then◌else◌, is_some}
 use Rattle.neli_answers.specs.declared.answering.Answering.{Answering}
 use Rattle.neli_session.specs.declared.entry.Entry.{Entry}
@@ -86,25 +86,33 @@ pub times-more : (q : ℕ) (ps : List Mail) (p : Mail) → times_among q (ps ++ 
 times-more q [] p = omega arith
 times-more q (r ∷ ps) p = let more = times-more q ps p in omega (arith, more)
 
--- of its requests only its dump is answered by one
-abbrev pub IsMarked : (ℕ → Option Request) → Mail → Type 0
-IsMarked requests p = (q : ℕ) → is_in q p.numbers ≡ true → has_dump (requests q) ≡ true → p.dump ≡ Some q
+-- of its requests its dump is answered by one, and no other is
+pub record IsMarked (requests : ℕ → Option Request) (p : Mail) : Type 0 where
+  pub only : (q : ℕ) → is_in q p.numbers ≡ true → has_dump (requests q) ≡ true → p.dump ≡ Some q
+  pub carries : (q : ℕ) → p.dump ≡ Some q → (is_in q p.numbers ≡ true) × (has_dump (requests q) ≡ true)
 
 abbrev pub AreMarked : (ℕ → Option Request) → List Mail → Type 0
 AreMarked requests [] = Unit {0}
 AreMarked requests (p ∷ ps) = IsMarked requests p × AreMarked requests ps
 
--- where no more of those in them are answered by dumps
+-- where the same of those in them are answered by dumps
 pub still-marked : (f g : ℕ → Option Request) (ps : List Mail)
-    → ((q : ℕ) → 1 ≤ times_among q ps → has_dump (g q) ≡ true → has_dump (f q) ≡ true) → AreMarked f ps → AreMarked g ps
-still-marked f g [] by marked = tt
-still-marked f g (p ∷ ps) by (one, others) = (
-  λ q inside dump. one q inside (by q (within q inside) dump),
-  still-marked f g ps (λ q more dump. by q (let t : 1 ≤ times_among q (p ∷ ps) = omega (arith, more) in t) dump) others,
+    → ((q : ℕ) → 1 ≤ times_among q ps → has_dump (g q) ≡ true → has_dump (f q) ≡ true)
+    → ((q : ℕ) → 1 ≤ times_among q ps → has_dump (f q) ≡ true → has_dump (g q) ≡ true) → AreMarked f ps → AreMarked g ps
+still-marked f g [] by to marked = tt
+still-marked f g (p ∷ ps) by to (one, others) = (
+  record {
+    only = λ q inside dump. one.only q inside (by q (within q inside) dump);
+    carries = λ q is. let had = one.carries q is in (had.0, to q (within q had.0) had.1);
+  },
+  still-marked f g ps (λ q more dump. by q (later q more) dump) (λ q more dump. to q (later q more) dump) others,
 )
   where
     within : (q : ℕ) → is_in q p.numbers ≡ true → 1 ≤ times_in q p + times_among q ps
     within q inside = rw inside (omega arith)
+
+    later : (q : ℕ) → 1 ≤ times_among q ps → 1 ≤ times_in q p + times_among q ps
+    later q more = omega (arith, more)
 
 pub marked-more : (f : ℕ → Option Request) (ps : List Mail) (p : Mail) → AreMarked f ps → IsMarked f p
     → AreMarked f (ps ++ p ∷ [])
@@ -244,6 +252,48 @@ entries-added f (e ∷ es) q free inside = go (e.number == q) refl (is_some (f e
     go false same false taken h inside rest = more (f q) (with_entries es q (f q))
         (subst (λ (o : Option Request). IsAdded es q o (with_entries es q o))
         (ap (λ (b : Bool). if b then Some (queued e.answering e.echoes) else f q) same) (rest h inside))
+
+-- the request with the number n is one of these, and answered by a dump
+abbrev IsDumped : (ℕ → Option Request) → Entry → List Entry → ℕ → Type 0
+IsDumped f e es n = (((e.number == n) || is_in n (numbers_of es)) ≡ true)
+    × (has_dump (with_entries es n (with_entry e n (f n))) ≡ true)
+
+same-number : (n q : ℕ) → Some n ≡ Some q → n ≡ q
+same-number n q h = cc
+
+-- the first dump of these is one of them, and is answered by one
+pub dump-added : (f : ℕ → Option Request) (es : List Entry) (q : ℕ) → first_taken f es ≡ None
+    → first_of (dumps_of es) ≡ Some q
+    → (is_in q (numbers_of es) ≡ true) × (has_dump (with_entries es q (f q)) ≡ true)
+dump-added f [] q free is = cc
+dump-added f (e ∷ es) q free is = go (is_dump e.answering) refl (is_some (f e.number)) free is
+    (dump-added (λ n. with_entry e n (f n)) es q)
+  where
+    or-true : (c : Bool) → (c || true) ≡ true
+    or-true true = refl
+    or-true false = refl
+
+    own : with_entry e e.number (f e.number) ≡ Some (queued e.answering e.echoes)
+    own = ap (λ (b : Bool). if b then Some (queued e.answering e.echoes) else f e.number)
+        (eq-eqb e.number e.number refl)
+
+    go : (d : Bool) → is_dump e.answering ≡ d → (c : Bool)
+        → (if c then Some e.number else first_taken (λ n. with_entry e n (f n)) es) ≡ None
+        → first_of (if d then e.number ∷ dumps_of es else dumps_of es) ≡ Some q
+        → (first_taken (λ n. with_entry e n (f n)) es ≡ None → first_of (dumps_of es) ≡ Some q
+        → (is_in q (numbers_of es) ≡ true) × (has_dump (with_entries es q (with_entry e q (f q))) ≡ true))
+        → IsDumped f e es q
+    go d dump true h is more = cc
+    go true dump false h is more = subst (λ (n : ℕ). IsDumped f e es n) (same-number e.number q is) (
+      ap (λ (b : Bool). b || is_in e.number (numbers_of es)) (eq-eqb e.number e.number refl),
+      ap has_dump (entries-others es e.number (with_entry e e.number (f e.number))
+          (taken-out (λ n. with_entry e n (f n)) es e.number h (ap (λ (o : Option Request). is_some o) own)) ∙ own)
+          ∙ dump,
+    )
+    go false dump false h is more = (
+      ap (λ (b : Bool). (e.number == q) || b) (more h is).0 ∙ or-true (e.number == q),
+      (more h is).1,
+    )
 
 -- of one dump at most the first is each
 pub only-dump : (q : ℕ) (ns : List ℕ) → length ns ≤ 1 → is_in q ns ≡ true → first_of ns ≡ Some q

@@ -1,5 +1,5 @@
 -- What is the same after one call is the same after two.
-use Rattle.std.proofs.Common.{◌≡◌, refl, ◌∙◌}
+use Rattle.std.proofs.Common.{refl, ◌∙◌}
 use Rattle.neli_session.specs.declared.session.Session.{Session}
 use Rattle.neli_session.specs.Sends.{SameSending}
 

@@ -18,7 +18,7 @@ use Rattle.neli_session.proofs.Later.{IsLater, both-true, has_dump, is_leaving, 
 use Rattle.neli_session.proofs.Later.{is_sent_at, later-among, later-same, later-settled, no-truth, queued_at}
 use Rattle.neli_session.proofs.Later.{times_queued}
 use Rattle.neli_session.proofs.Outboxes.{AreMarked, IsAdded, IsMarked, among-fails, among-once, among-others}
-use Rattle.neli_session.proofs.Outboxes.{entries-added, entries-others, in-either, marked-more, next-marked, next-may}
+use Rattle.neli_session.proofs.Outboxes.{dump-added, entries-added, entries-others, in-either, marked-more, next-marked, next-may}
 use Rattle.neli_session.proofs.Outboxes.{next-times, only-dump, still-marked, times-more, times_among, times_in}
 
 pub record IsSound (requests : ℕ → Option Request) (awaited : List ℕ) (outbox : List Mail) (leaving : Option Mail)
@@ -47,7 +47,8 @@ module _ (f g : ℕ → Option Request) (A : List ℕ) (O : List Mail) (L : Opti
     queued = λ q. sound.queued q ∙ sym (later q).queued;
     leaves = λ q h. sound.leaves q ((later q).leaving h);
     awaits = λ q h. sound.awaits q ((later q).pending h);
-    marked = still-marked f g O (λ q more h. (later q).dump h) sound.marked;
+    marked = still-marked f g O (λ q more h. (later q).dump h)
+        (λ q more h. (later q).carries (let is = sound.queued q in omega (arith, is, more)) h) sound.marked;
     runs = λ q h. sound.runs q ((later q).runs h);
   }
 
@@ -109,9 +110,13 @@ module _ (f g : ℕ → Option Request) (A : List ℕ) (O : List Mail) (L : Opti
 
     send-marked : AreMarked g (O ++ mail_of bytes es ∷ [])
     send-marked = marked-more g O (mail_of bytes es)
-        (still-marked f g O (λ q more h. ap has_dump (sym (waited q more)) ∙ h) sound.marked)
-        (λ q inside h. only-dump q (dumps_of es) few
-        ((added q inside).dump (ap has_dump (sym (added q inside).is) ∙ h)))
+        (still-marked f g O (λ q more h. ap has_dump (sym (waited q more)) ∙ h)
+        (λ q more h. ap has_dump (waited q more) ∙ h) sound.marked)
+        (record {
+          only = λ q inside h. only-dump q (dumps_of es) few
+              ((added q inside).dump (ap has_dump (sym (added q inside).is) ∙ h));
+          carries = λ q is. let had = dump-added f es q free is in (had.0, ap has_dump (new q) ∙ had.1);
+        })
 
     send-runs : (q : ℕ) → is_running (g q) ≡ true → N ≡ Some q
     send-runs q h = go (is_in q (numbers_of es)) refl
@@ -227,24 +232,48 @@ module _ (f g : ℕ → Option Request) (A : List ℕ) (O : List Mail) (N : Opti
       go true inside = ap has_dump (in-leaves q inside).was ∙ ap has_dump (sym (in-left q inside)) ∙ h
       go false out = ap has_dump (sym (out-stays q out)) ∙ h
 
+  -- what still waits is no number of it
+  out-other : (q : ℕ) → 1 ≤ times_among q others → is_in q p.numbers ≡ false
+  out-other q more = go (is_in q p.numbers) refl
+    where
+      go : (b : Bool) → is_in q p.numbers ≡ b → b ≡ false
+      go true inside =
+          let none : times_among q others ≡ 0 = (in-leaves q inside).no-more in
+          elim (let no : ⊥ = omega (arith, none, more) in no) [ ]
+      go false out = refl
+
   out-marked : IsMarked f p × AreMarked f others
   out-marked = next-marked (runs_now N f) f O p next sound.marked
+
+  -- while a dump runs none goes out
+  out-idle : (q : ℕ) → N ≡ Some q → is_running (f q) ≡ true → is_some p.dump ≡ false
+  out-idle q is runs = may (is_some p.dump) (ap (λ (b : Bool). not (b && is_some p.dump))
+      (sym (ap (λ (o : Option ℕ). runs_now o f) is ∙ runs)) ∙ next-may (runs_now N f) O p next)
+    where
+      may : (b : Bool) → not b ≡ true → b ≡ false
+      may true never = no-truth never
+      may false is_none = refl
+
+  pub out-alone : (q : ℕ) → is_some p.dump ≡ true → is_running (f q) ≡ false
+  out-alone q dump = go (is_running (f q)) refl
+    where
+      go : (b : Bool) → is_running (f q) ≡ b → b ≡ false
+      go true runs = no-truth (sym (out-idle q (sound.runs q runs) runs) ∙ dump)
+      go false idle = refl
+
+  -- and where one goes out it runs
+  pub out-begins : (n : ℕ) → p.dump ≡ Some n → is_running (g n) ≡ true
+  out-begins n is =
+      let had = out-marked.0.carries n is in
+      ap is_running (in-left n had.0)
+      ∙ ap (λ (b : Bool). b && true) (ap has_dump (sym (in-leaves n had.0).was) ∙ had.1)
 
   out-runs : (q : ℕ) → is_running (g q) ≡ true → running_with (Some p) N ≡ Some q
   out-runs q h = go (is_in q p.numbers) refl
     where
-      -- while another dump runs none goes out
-      none : N ≡ Some q → is_running (f q) ≡ true → is_some p.dump ≡ false
-      none is runs = may (is_some p.dump) (ap (λ (b : Bool). not (b && is_some p.dump))
-          (sym (ap (λ (o : Option ℕ). runs_now o f) is ∙ runs)) ∙ next-may (runs_now N f) O p next)
-        where
-          may : (b : Bool) → not b ≡ true → b ≡ false
-          may true never = no-truth never
-          may false is_none = refl
-
       go : (b : Bool) → is_in q p.numbers ≡ b → running_with (Some p) N ≡ Some q
       go true inside =
-          let dump : p.dump ≡ Some q = out-marked.0 q inside (out-dump q (is-dump (g q) h)) in
+          let dump : p.dump ≡ Some q = out-marked.0.only q inside (out-dump q (is-dump (g q) h)) in
           rw dump refl
         where
           is-dump : (o : Option Request) → is_running o ≡ true → has_dump o ≡ true
@@ -253,14 +282,15 @@ module _ (f g : ℕ → Option Request) (A : List ℕ) (O : List Mail) (N : Opti
       go false out =
           let was : is_running (f q) ≡ true = ap is_running (sym (out-stays q out)) ∙ h in
           let same : N ≡ Some q = sound.runs q was in
-          ap (λ (b : Bool). if b then p.dump else N) (none same was) ∙ same
+          ap (λ (b : Bool). if b then p.dump else N) (out-idle q same was) ∙ same
 
   pub sound-out : IsSound g A others (Some p) (running_with (Some p) N)
   sound-out = record {
     queued = out-queued;
     leaves = out-leaves;
     awaits = out-awaits;
-    marked = still-marked f g others (λ q more h. out-dump q h) out-marked.1;
+    marked = still-marked f g others (λ q more h. out-dump q h)
+        (λ q more h. ap has_dump (out-stays q (out-other q more)) ∙ h) out-marked.1;
     runs = out-runs;
   }
 
@@ -282,6 +312,18 @@ sound-outgoing f g A O None N true None sound next new = out-none f g A O None N
 sound-outgoing f g A O None N true (Some r) sound next new = cc
 sound-outgoing f g A O None N false None sound next new = out-none f g A O None N sound new
 sound-outgoing f g A O None N false (Some r) sound next new = sound-out f g A O N sound r next new
+
+-- where it has a dump, none ran, and it runs from then on
+pub turn-outgoing : (f g : ℕ → Option Request) (A : List ℕ) (O : List Mail) (L : Option Mail) (N : Option ℕ)
+    (congested : Bool) (p : Mail) (n : ℕ) → IsSound f A O L N → next_out congested L (runs_now N f) O ≡ Some p
+    → ((q : ℕ) → g q ≡ among p.numbers (when change.Leave) q (f q)) → p.dump ≡ Some n
+    → ((q : ℕ) → is_running (f q) ≡ false) × (is_running (g n) ≡ true)
+turn-outgoing f g A O (Some r) N congested p n sound next new is = cc
+turn-outgoing f g A O None N true p n sound next new is = cc
+turn-outgoing f g A O None N false p n sound next new is = (
+  λ q. out-alone f g A O N sound p next new q (ap (λ (o : Option ℕ). is_some o) is),
+  out-begins f g A O N sound p next new n is,
+)
 
 -- ---- what was on its way is gone
 

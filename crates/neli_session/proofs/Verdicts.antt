@@ -1,5 +1,5 @@
 -- When the verdict is that an answer is complete: by its stage and by what was read.
-use Rattle.std.proofs.Common.{ℕ, pos, ◌≡◌, ◌≢◌, Bool, true, false, ◌&&◌, ◌||◌, ◌==◌, if◌then◌else◌}
+use Rattle.std.proofs.Common.{ℕ, pos, ◌≡◌, ◌≢◌, Bool, true, false, ◌||◌, ◌==◌, if◌then◌else◌}
 use Rattle.std.proofs.Common.{List, [], ◌∷◌, ◌++◌, All, Option, Some, None, Ok, Err, refl, sym, subst, ap, ◌∙◌}
 use Rattle.std.specs.Prelude.{⊤}
 use Rattle.std.proofs.lemmas.List.{append-nil}
@@ -17,38 +17,18 @@ use Rattle.neli_session.specs.declared.request.Stage.{Stage}
 use Rattle.neli_session.specs.declared.request.Stage.TheVariants as stage
 use Rattle.neli_session.specs.declared.request.Verdict.{Verdict}
 use Rattle.neli_session.specs.declared.request.Verdict.TheVariants as stands
-use Rattle.neli_session.specs.Requests.{answers, code_of, end_verdict, first_item, heard, is_awaited, item_verdict}
-use Rattle.neli_session.specs.Requests.{left_at, next_item, passed_by, sent_at, settled, unsent_at, untold}
+use Rattle.neli_session.specs.Requests.{answers, code_of, end_verdict, first_item, heard, item_verdict}
+use Rattle.neli_session.specs.Requests.{next_item, passed_by, unsent_at, untold}
 use Rattle.neli_session.specs.Requests.{verdict_at, verdict_of, verdict_with}
 use Rattle.neli_session.specs.Sessions.{queued}
 use Rattle.neli_session.specs.Happenings.{Happening, Came, Changed, Read, after_happenings, answer, answer_since}
-use Rattle.neli_session.specs.Happenings.{item_list, left, loss_list, returned, returned_by, then_is}
-use Rattle.neli_session.specs.Verdicts.{AreClean, IsClean, IsWholeAnswer, ends}
+use Rattle.neli_session.specs.Happenings.{item_list, left, loss_list, returned, returned_by, stage_after, stage_by}
+use Rattle.neli_session.specs.Happenings.{then_is, unsent_stage}
+use Rattle.neli_session.specs.Verdicts.{AreClean, IsClean, IsWholeAnswer, ends, verdict_after}
 use Rattle.neli_session.specs.Waiting.{Item, as_items}
 use Rattle.neli_session.proofs.AllRead.{reads-answer}
 
 -- ---- the stage, by itself
-
--- after it was not sent
-abbrev unsent_stage : Stage → Stage
-unsent_stage stage.Leaving = stage.Silent
-unsent_stage s = s
-
--- after what happens
-abbrev stage_after : Answering → Bool → Happening → Stage → Stage
-stage_after a e (Came group m) s =
-    if is_awaited s && ((group == 0) || e) then (if ends a m then stage.Ended else s) else s
-stage_after a e (Changed change.Leave) s = left_at s
-stage_after a e (Changed change.Sent) s = sent_at s
-stage_after a e (Changed (change.Unsent n)) s = unsent_stage s
-stage_after a e (Changed (change.Lose l)) s = s
-stage_after a e (Changed change.Settle) s = settled s
-stage_after a e Read s = s
-
--- after all of it
-abbrev last_stage : Answering → Bool → List Happening → Stage → Stage
-last_stage a e [] s = s
-last_stage a e (h ∷ hs) s = last_stage a e hs (stage_after a e h s)
 
 -- x is r later on, at the stage s
 record IsAt (r : Request) (s : Stage) (x : Request) : Type 0 where
@@ -84,7 +64,7 @@ goes-on Read r = by r.waiting (untold r)
     by [] None = record { kind = refl; echoing = refl; stage_is = refl }
 
 ends-at : (hs : List Happening) (r : Request)
-    → IsAt r (last_stage r.answering r.echoes hs r.stage) (after_happenings hs r)
+    → IsAt r (stage_by r.answering r.echoes hs r.stage) (after_happenings hs r)
 ends-at [] r = record { kind = refl; echoing = refl; stage_is = refl }
 ends-at (h ∷ hs) r =
     let one = goes-on h r in
@@ -93,23 +73,18 @@ ends-at (h ∷ hs) r =
       kind = more.kind ∙ one.kind;
       echoing = more.echoing ∙ one.echoing;
       stage_is = more.stage_is
-          ∙ ap (λ (a : Answering). last_stage a (then_is h r).echoes hs (then_is h r).stage) one.kind
-          ∙ ap (λ (e : Bool). last_stage r.answering e hs (then_is h r).stage) one.echoing
-          ∙ ap (λ (s : Stage). last_stage r.answering r.echoes hs s) one.stage_is;
+          ∙ ap (λ (a : Answering). stage_by a (then_is h r).echoes hs (then_is h r).stage) one.kind
+          ∙ ap (λ (e : Bool). stage_by r.answering e hs (then_is h r).stage) one.echoing
+          ∙ ap (λ (s : Stage). stage_by r.answering r.echoes hs s) one.stage_is;
     }
 
 -- ---- the verdict by what was read
 
--- after these items were read
-abbrev judged : Verdict → List Item → Verdict
-judged v [] = v
-judged v (x ∷ xs) = judged (verdict_with v x) xs
+after-both : (xs ys : List Item) (v : Verdict) → verdict_after v (xs ++ ys) ≡ verdict_after (verdict_after v xs) ys
+after-both [] ys v = refl
+after-both (x ∷ xs) ys v = after-both xs ys (verdict_with v x)
 
-judged-append : (xs ys : List Item) (v : Verdict) → judged v (xs ++ ys) ≡ judged (judged v xs) ys
-judged-append [] ys v = refl
-judged-append (x ∷ xs) ys v = judged-append xs ys (verdict_with v x)
-
-notes : (h : Happening) (r : Request) → (then_is h r).noted ≡ judged r.noted (returned h r)
+notes : (h : Happening) (r : Request) → (then_is h r).noted ≡ verdict_after r.noted (returned h r)
 notes (Came group m) r = by (answers group r)
   where
     by : (b : Bool) → (if b then heard m r else r).noted ≡ r.noted
@@ -129,16 +104,25 @@ notes (Changed (change.Lose l)) r = refl
 notes (Changed change.Settle) r = refl
 notes Read r = by r.waiting (untold r)
   where
-    by : (xs : List Item) (l : Option Loss) → (passed_by xs l r).noted ≡ judged r.noted (item_list (first_item xs l))
+    by : (xs : List Item) (l : Option Loss) → (passed_by xs l r).noted ≡ verdict_after r.noted (item_list (first_item xs l))
     by (x ∷ xs) l = refl
     by [] (Some l) = refl
     by [] None = refl
 
-noted-is : (hs : List Happening) (r : Request) → (after_happenings hs r).noted ≡ judged r.noted (returned_by hs r)
+noted-is : (hs : List Happening) (r : Request) → (after_happenings hs r).noted ≡ verdict_after r.noted (returned_by hs r)
 noted-is [] r = refl
 noted-is (h ∷ hs) r = noted-is hs (then_is h r)
-    ∙ ap (λ (v : Verdict). judged v (returned_by hs (then_is h r))) (notes h r)
-    ∙ sym (judged-append (returned h r) (returned_by hs (then_is h r)) r.noted)
+    ∙ ap (λ (v : Verdict). verdict_after v (returned_by hs (then_is h r))) (notes h r)
+    ∙ sym (after-both (returned h r) (returned_by hs (then_is h r)) r.noted)
+
+pub reads_noted : (a : Answering) (e : Bool) (hs : List Happening)
+    → (after_happenings hs (queued a e)).noted ≡ verdict_after stands.Pending (returned_by hs (queued a e))
+reads_noted a e hs = noted-is hs (queued a e)
+
+pub stages_follow : (a : Answering) (e : Bool) (hs : List Happening)
+    → ((after_happenings hs (queued a e)).answering ≡ a)
+    × ((after_happenings hs (queued a e)).stage ≡ stage_by a e hs stage.Queued)
+stages_follow a e hs = let at = ends-at hs (queued a e) in (at.kind, at.stage_is)
 
 -- none of the items decides a verdict
 abbrev DecideNothing : List Item → Type 0
@@ -154,7 +138,7 @@ undecided (stands.Failed n) x is = absurd cc
 undecided (stands.Lost l) x is = absurd cc
 undecided stands.Unanswered x is = absurd cc
 
-are-clean : (xs : List Item) (v : Verdict) → judged v xs ≡ stands.Pending → (v ≡ stands.Pending) × DecideNothing xs
+are-clean : (xs : List Item) (v : Verdict) → verdict_after v xs ≡ stands.Pending → (v ≡ stands.Pending) × DecideNothing xs
 are-clean [] v is = (is, tt)
 are-clean (x ∷ xs) v is =
     let more = are-clean xs (verdict_with v x) is in
@@ -186,7 +170,7 @@ with-incomplete (stands.Failed n) x differs is = differs is
 with-incomplete (stands.Lost l) x differs is = differs is
 with-incomplete stands.Unanswered x differs is = differs is
 
-incomplete : (xs : List Item) (v : Verdict) → v ≢ stands.Complete → judged v xs ≢ stands.Complete
+incomplete : (xs : List Item) (v : Verdict) → v ≢ stands.Complete → verdict_after v xs ≢ stands.Complete
 incomplete [] v differs = differs
 incomplete (x ∷ xs) v differs = incomplete xs (verdict_with v x) (with-incomplete v x differs)
 
@@ -242,7 +226,7 @@ module _ (a : Answering) where
   }
 
 module _ (a : Answering) (e : Bool) where
-  silent-stays : (hs : List Happening) → last_stage a e hs stage.Silent ≡ stage.Silent
+  silent-stays : (hs : List Happening) → stage_by a e hs stage.Silent ≡ stage.Silent
   silent-stays [] = refl
   silent-stays (Came group m ∷ hs) = silent-stays hs
   silent-stays (Changed change.Leave ∷ hs) = silent-stays hs
@@ -254,17 +238,17 @@ module _ (a : Answering) (e : Bool) where
 
   -- a message that came while the answer was awaited
   came-whole : (m : Lent ℕ) (hs : List Happening) (xs : List Item) (s : Stage)
-      → (DecideNothing xs → last_stage a e hs s ≡ stage.Ended → IsWholeAnswer a xs)
+      → (DecideNothing xs → stage_by a e hs s ≡ stage.Ended → IsWholeAnswer a xs)
       → (mine last : Bool) → ends a m ≡ last
       → DecideNothing (if mine then Ok m ∷ (if last then [] else xs) else xs)
-      → last_stage a e hs (if mine then (if last then stage.Ended else s) else s) ≡ stage.Ended
+      → stage_by a e hs (if mine then (if last then stage.Ended else s) else s) ≡ stage.Ended
       → IsWholeAnswer a (if mine then Ok m ∷ (if last then [] else xs) else xs)
   came-whole m hs xs s later true true is clean ended = last-alone a m is clean.0
   came-whole m hs xs s later true false is clean ended = one-before a m xs is clean.0 (later clean.1 ended)
   came-whole m hs xs s later false last is clean ended = later clean ended
 
   since-whole : (sent : Bool) (hs : List Happening) → DecideNothing (answer_since sent a e hs)
-      → last_stage a e hs (if sent then stage.Awaited else stage.Leaving) ≡ stage.Ended
+      → stage_by a e hs (if sent then stage.Awaited else stage.Leaving) ≡ stage.Ended
       → IsWholeAnswer a (answer_since sent a e hs)
   since-whole true [] clean ended = absurd cc
   since-whole false [] clean ended = absurd cc
@@ -287,7 +271,7 @@ module _ (a : Answering) (e : Bool) where
   since-whole true (Read ∷ hs) clean ended = since-whole true hs clean ended
   since-whole false (Read ∷ hs) clean ended = since-whole false hs clean ended
 
-  answer-whole : (hs : List Happening) → DecideNothing (answer a e hs) → last_stage a e hs stage.Queued ≡ stage.Ended
+  answer-whole : (hs : List Happening) → DecideNothing (answer a e hs) → stage_by a e hs stage.Queued ≡ stage.Ended
       → IsWholeAnswer a (answer a e hs)
   answer-whole [] clean ended = absurd cc
   answer-whole (Came group m ∷ hs) clean ended = answer-whole hs clean ended
@@ -321,9 +305,9 @@ complete-whole a e hs complete =
 
 -- ---- a whole answer has ended, and no item of it decides a verdict
 
-clean-pending : (xs : List Item) → DecideNothing xs → judged stands.Pending xs ≡ stands.Pending
+clean-pending : (xs : List Item) → DecideNothing xs → verdict_after stands.Pending xs ≡ stands.Pending
 clean-pending [] clean = refl
-clean-pending (x ∷ xs) clean = ap (λ (v : Verdict). judged v xs) clean.0 ∙ clean-pending xs clean.1
+clean-pending (x ∷ xs) clean = ap (λ (v : Verdict). verdict_after v xs) clean.0 ∙ clean-pending xs clean.1
 
 none-next : (xs : List Item) (l : Option Loss) → xs ++ loss_list l ≡ [] → first_item xs l ≡ None
 none-next (x ∷ xs) l is = absurd cc
@@ -370,7 +354,7 @@ module _ (a : Answering) where
       }
 
 module _ (a : Answering) (e : Bool) where
-  ended-stays : (hs : List Happening) → last_stage a e hs stage.Ended ≡ stage.Ended
+  ended-stays : (hs : List Happening) → stage_by a e hs stage.Ended ≡ stage.Ended
   ended-stays [] = refl
   ended-stays (Came group m ∷ hs) = ended-stays hs
   ended-stays (Changed change.Leave ∷ hs) = ended-stays hs
@@ -381,15 +365,15 @@ module _ (a : Answering) (e : Bool) where
   ended-stays (Read ∷ hs) = ended-stays hs
 
   came-ended : (m : Lent ℕ) (hs : List Happening) (xs : List Item) (s : Stage)
-      → (IsWholeAnswer a xs → last_stage a e hs s ≡ stage.Ended) → (mine last : Bool) → ends a m ≡ last
+      → (IsWholeAnswer a xs → stage_by a e hs s ≡ stage.Ended) → (mine last : Bool) → ends a m ≡ last
       → IsWholeAnswer a (if mine then Ok m ∷ (if last then [] else xs) else xs)
-      → last_stage a e hs (if mine then (if last then stage.Ended else s) else s) ≡ stage.Ended
+      → stage_by a e hs (if mine then (if last then stage.Ended else s) else s) ≡ stage.Ended
   came-ended m hs xs s later true true is whole = ended-stays hs
   came-ended m hs xs s later true false is whole = later (rest-whole a m xs is whole)
   came-ended m hs xs s later false last is whole = later whole
 
   since-ended : (sent : Bool) (hs : List Happening) → IsWholeAnswer a (answer_since sent a e hs)
-      → last_stage a e hs (if sent then stage.Awaited else stage.Leaving) ≡ stage.Ended
+      → stage_by a e hs (if sent then stage.Awaited else stage.Leaving) ≡ stage.Ended
   since-ended sent [] whole = absurd (none-missing a whole)
   since-ended true (Came group m ∷ hs) whole =
       came-ended m hs (answer_since true a e hs) stage.Awaited (since-ended true hs)
@@ -411,7 +395,7 @@ module _ (a : Answering) (e : Bool) where
   since-ended false (Read ∷ hs) whole = since-ended false hs whole
 
   answer-ended : (hs : List Happening) → IsWholeAnswer a (answer a e hs)
-      → last_stage a e hs stage.Queued ≡ stage.Ended
+      → stage_by a e hs stage.Queued ≡ stage.Ended
   answer-ended [] whole = absurd (none-missing a whole)
   answer-ended (Came group m ∷ hs) whole = answer-ended hs whole
   answer-ended (Changed change.Leave ∷ hs) whole = since-ended false hs whole

@@ -9,7 +9,10 @@ use Rattle.neli_session.specs.declared.change.Change.TheVariants as change
 use Rattle.neli_session.specs.declared.loss.Loss.{Loss}
 use Rattle.neli_session.specs.declared.loss.Loss.TheVariants as loss
 use Rattle.neli_session.specs.declared.request.Request.{Request}
-use Rattle.neli_session.specs.Requests.{answers, changed, heard, next_item, passed, untold}
+use Rattle.neli_session.specs.declared.request.Stage.{Stage}
+use Rattle.neli_session.specs.declared.request.Stage.TheVariants as stage
+use Rattle.neli_session.specs.Requests.{answers, changed, heard, is_awaited, left_at, next_item, passed, sent_at}
+use Rattle.neli_session.specs.Requests.{settled, untold}
 use Rattle.neli_session.specs.Sessions.{after_all, is_own, queued}
 use Rattle.neli_session.specs.Waiting.{Item}
 
@@ -50,6 +53,26 @@ returned_by (h ∷ hs) r = returned h r ++ returned_by hs (then_is h r)
 abbrev pub after_happenings : List Happening → Request → Request
 after_happenings [] r = r
 after_happenings (h ∷ hs) r = after_happenings hs (then_is h r)
+
+-- how far it is, by what happens alone
+abbrev pub unsent_stage : Stage → Stage
+unsent_stage stage.Leaving = stage.Silent
+unsent_stage s = s
+
+abbrev pub stage_after : Answering → Bool → Happening → Stage → Stage
+stage_after a echoes (Came group m) s =
+    if is_awaited s && ((group == 0) || echoes)
+    then (if ends_answer a m.0.message_type m.0.flags then stage.Ended else s) else s
+stage_after a echoes (Changed change.Leave) s = left_at s
+stage_after a echoes (Changed change.Sent) s = sent_at s
+stage_after a echoes (Changed (change.Unsent errno)) s = unsent_stage s
+stage_after a echoes (Changed (change.Lose l)) s = s
+stage_after a echoes (Changed change.Settle) s = settled s
+stage_after a echoes Read s = s
+
+abbrev pub stage_by : Answering → Bool → List Happening → Stage → Stage
+stage_by a echoes [] s = s
+stage_by a echoes (h ∷ hs) s = stage_by a echoes hs (stage_after a echoes h s)
 
 -- what is still to be read: what waits, and the loss if it was not read
 abbrev pub left : Request → List Item
@@ -97,6 +120,13 @@ abbrev pub DatagramsAreHappenings : Type 0
 DatagramsAreHappenings =
     (port group q : ℕ) (ms : List (Lent ℕ)) (r : Request) → r.is_open ≡ true
     → after_all port group ms q (Some r) ≡ Some (after_happenings (came_for port group q ms) r)
+
+-- a request is answered as it was, and is as far as what happened says
+abbrev pub StagesFollow : Type 0
+StagesFollow =
+    (a : Answering) (echoes : Bool) (hs : List Happening)
+    → ((after_happenings hs (queued a echoes)).answering ≡ a)
+    × ((after_happenings hs (queued a echoes)).stage ≡ stage_by a echoes hs stage.Queued)
 
 -- whatever happens to a request that waits to be sent: what its reads returned, and then what is still to be read, is the
 -- answer, each item once and in order

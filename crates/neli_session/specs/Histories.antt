@@ -14,6 +14,7 @@ use Rattle.neli_session.specs.declared.loss.Loss.TheVariants as loss
 use Rattle.neli_session.specs.declared.request.Request.{Request}
 use Rattle.neli_session.specs.declared.session.Session.{Session}
 use Rattle.neli_session.specs.Happenings.{Changed, Happening, Read, after_happenings, answer, came_for, item_list, left}
+use Rattle.neli_session.specs.Happenings.{returned_by}
 use Rattle.neli_session.specs.Messages.{IsWhole, messages_of}
 use Rattle.neli_session.specs.Requests.{first_item, is_over, next_item}
 use Rattle.neli_session.specs.Mails.{Mail, answering_by, answers_at_once, entries_of, mail_of, numbers_in, on_its_way}
@@ -215,6 +216,11 @@ abbrev pub read_of : ℕ → Session → List Moment → List Item
 read_of q s [] = []
 read_of q s (m ∷ ms) = passes q s m.call ++ read_of q m.session ms
 
+-- the request with the number q, which was `r`, is as these happenings leave it, and its reads returned the same
+pub record IsFollowed (q : ℕ) (s : Session) (ms : List Moment) (hs : List Happening) (r : Request) : Type 0 where
+  pub is : at (last s ms).requests q ≡ Some (after_happenings hs r)
+  pub read : read_of q s ms ≡ returned_by hs r
+
 -- ---- what the readers of multicast and of the unasked get
 
 -- of a datagram with a fault: the loss of its rest
@@ -341,6 +347,26 @@ abbrev pub OneDumpRuns : Type 0
 OneDumpRuns =
     (s : Session) (ms : List Moment) → IsNew s → IsHistory s ms → (p q : ℕ)
     → is_running (at (last s ms).requests p) ≡ true → is_running (at (last s ms).requests q) ≡ true → p ≡ q
+
+-- in the first session no dump runs, and in the second one that with the number n does
+pub record BeginsAlone (n : ℕ) (s t : Session) : Type 0 where
+  pub alone : (q : ℕ) → is_running (at s.requests q) ≡ false
+  pub begins : is_running (at t.requests n) ≡ true
+
+-- a datagram with a dump goes out only while no dump runs, and from then on its dump runs
+abbrev pub DumpsTakeTurns : Type 0
+DumpsTakeTurns =
+    (s t : Session) (ms : List Moment) (p : Mail) (n : ℕ) → IsNew s → IsHistory s ms
+    → IsStep (Outgoing (Some p)) (last s ms) t → p.dump ≡ Some n → BeginsAlone n (last s ms) t
+
+-- a request that was sent and is not closed is as what happened to it since then leaves one that waits to be sent, by
+-- what the later calls are for its number, and its reads returned the same
+abbrev pub RequestsAreFollowed : Type 0
+RequestsAreFollowed =
+    (s t : Session) (by : Option Answering) (bytes : List ℕ) (m : Lent ℕ) (later : List Moment)
+    → HasSent s by bytes m t → IsHistory t later → is_closed m.0.sequence_number later ≡ false
+    → IsFollowed m.0.sequence_number t later (happenings s.protocol s.port m.0.sequence_number later)
+    (queued (answering_by s.protocol by m) (has_all 8 m.0.flags))
 
 -- of a request that was sent and is not closed, what its reads returned, and then what is still to be read, is its
 -- answer, by what the later calls are for its number

@@ -1,5 +1,5 @@
 -- Requests by their messages, the datagrams that wait to be sent, and which of them goes next.
-use Rattle.std.specs.Prelude.{◌≡◌, ℕ, Bool, true, false, not, ◌&&◌, if◌then◌else◌, List, [], ◌∷◌, length, map}
+use Rattle.std.specs.Prelude.{ℕ, Bool, true, false, not, ◌&&◌, if◌then◌else◌, List, [], ◌∷◌, length, map}
 use Rattle.std.specs.Prelude.{◌+◌, Option, Some, None, Ok, bit_or, is_some}
 use Rattle.neli_answers.specs.Answers.{answering_of, has_all}
 use Rattle.neli_answers.specs.declared.answering.Answering.{Answering}

@@ -7,7 +7,6 @@ use Rattle.neli_answers.specs.declared.answering.Answering.{Answering}
 use Rattle.neli_lent.specs.Messages.{Lent, message_view}
 use Rattle.neli_session.specs.declared.change.Change.{Change}
 use Rattle.neli_session.specs.declared.change.Change.TheVariants as change
-use Rattle.neli_session.specs.declared.loss.Loss.{Loss}
 use Rattle.neli_session.specs.declared.loss.Loss.TheVariants as loss
 use Rattle.neli_session.specs.declared.reading.Next.{Next}
 use Rattle.neli_session.specs.declared.reading.Next.TheVariants as next

@@ -5,9 +5,10 @@ use Rattle.neli_answers.specs.Answers.{ends_answer}
 use Rattle.neli_answers.specs.declared.answering.Answering.{Answering}
 use Rattle.neli_answers.specs.declared.answering.Answering.TheVariants as answered
 use Rattle.neli_lent.specs.Messages.{Lent}
+use Rattle.neli_session.specs.declared.request.Verdict.{Verdict}
 use Rattle.neli_session.specs.declared.request.Verdict.TheVariants as stands
 use Rattle.neli_session.specs.Happenings.{Happening, after_happenings, answer, returned_by}
-use Rattle.neli_session.specs.Requests.{message_verdict, verdict_of}
+use Rattle.neli_session.specs.Requests.{message_verdict, verdict_of, verdict_with}
 use Rattle.neli_session.specs.Sessions.{queued}
 use Rattle.neli_session.specs.Waiting.{Item, as_items}
 
@@ -32,7 +33,18 @@ pub record IsWholeAnswer (a : Answering) (xs : List Item) : Type 0 where
   pub not_before : All (λ m. ends a m ≡ false) front
   pub at_last : ends a last ≡ true
 
+-- a verdict after these items were read: the first that is not pending stays
+abbrev pub verdict_after : Verdict → List Item → Verdict
+verdict_after v [] = v
+verdict_after v (x ∷ xs) = verdict_after (verdict_with v x) xs
+
 -- ---- the laws
+
+-- what its reads returned is noted, and nothing else
+abbrev pub ReadsAreNoted : Type 0
+ReadsAreNoted =
+    (a : Answering) (echoes : Bool) (hs : List Happening)
+    → (after_happenings hs (queued a echoes)).noted ≡ verdict_after stands.Pending (returned_by hs (queued a echoes))
 
 -- where the verdict is that an answer is complete, its reads returned the answer, and nothing of it was lost or decides
 -- another verdict; unless none was expected, it is whole

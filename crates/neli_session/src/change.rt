@@ -4,7 +4,7 @@ use crate::Loss;
 
 /// What happens to several requests at once.
 #[derive(Clone, Copy, Debug, PartialEq, Eq)]
-pub(crate) enum Change {
+pub enum Change {
     /// The link sends them, and their answers may come.
     Leave,
     /// The link has sent them.

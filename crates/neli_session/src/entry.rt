@@ -17,7 +17,7 @@ use std::alloc::Global;
 
 /// A request, as its message says.
 #[derive(Clone, Copy, Debug, PartialEq, Eq)]
-pub(crate) struct Entry {
+pub struct Entry {
     pub(crate) number: u32,
     pub(crate) answering: Answering,
     /// It has the flag ECHO.

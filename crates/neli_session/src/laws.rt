@@ -1,11 +1,13 @@
 //! Laws: what the reads of a request return, whatever happens, when the verdict is `Complete`, and what holds after any
 //! calls of a session.
 
-ghost use Rattle.neli_session.specs.Happenings.{DatagramsAreHappenings, ReadsAreTheAnswer};
-ghost use Rattle.neli_session.specs.Histories.{AnswersAreRead, DatagramsGoOutInOrder, MulticastIsRead};
-ghost use Rattle.neli_session.specs.Histories.{NumbersStayInUse, OneDumpRuns, RegroupingChangesNothing};
+ghost use Rattle.neli_session.specs.Happenings.{DatagramsAreHappenings, ReadsAreTheAnswer, StagesFollow};
+ghost use Rattle.neli_session.specs.Histories.{AnswersAreRead, DatagramsGoOutInOrder, DumpsTakeTurns};
+ghost use Rattle.neli_session.specs.Histories.{MulticastIsRead, NumbersStayInUse, OneDumpRuns};
+ghost use Rattle.neli_session.specs.Histories.{RegroupingChangesNothing, RequestsAreFollowed};
 ghost use Rattle.neli_session.specs.Histories.{SentNumbersWereFree, UnaskedAreRead};
-ghost use Rattle.neli_session.specs.Verdicts.{CompleteAnswersAreWhole, WholeAnswersAreComplete};
+ghost use Rattle.neli_session.specs.Verdicts.{CompleteAnswersAreWhole, ReadsAreNoted};
+ghost use Rattle.neli_session.specs.Verdicts.{WholeAnswersAreComplete};
 
 /// Whatever happens to a request that was sent, in any order, with reads at any time: what its reads returned, and then
 /// what is still to be read, is its answer: the messages that came for it up to the first that ends it, each once and in
@@ -24,6 +26,18 @@ pub fn datagrams_are_happenings()
 /// and then what is still to be read, is its answer, by what the calls since then are for its number.
 pub fn answers_are_read()
     ensures { AnswersAreRead }
+{}
+
+/// So of each such request: it is as what the calls since then are for its number leave one that waits to be sent, and
+/// its reads returned the same.
+pub fn requests_are_followed()
+    ensures { RequestsAreFollowed }
+{}
+
+/// A datagram with a request that is answered by a dump goes out only while no other dump runs, and from then on its
+/// own runs.
+pub fn dumps_take_turns()
+    ensures { DumpsTakeTurns }
 {}
 
 /// After any calls at most one request is answered by a dump and is awaited: the kernel refuses a second dump
@@ -64,6 +78,18 @@ pub fn multicast_is_read()
 /// answered no request when it came, and each loss, once and in order.
 pub fn unasked_are_read()
     ensures { UnaskedAreRead }
+{}
+
+/// How far a request is, what happened to it decides alone.
+#[tactic(auto, using(crate::proofs::Verdicts::stages_follow))]
+pub fn stages_follow()
+    ensures { StagesFollow }
+{}
+
+/// The verdict is decided by what the reads returned: by the first item that decides one.
+#[tactic(auto, using(crate::proofs::Verdicts::reads_noted))]
+pub fn reads_are_noted()
+    ensures { ReadsAreNoted }
 {}
 
 /// Where the verdict on an answer is `Complete`, its reads have returned all of it, each message once and in order.

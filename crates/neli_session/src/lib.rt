@@ -15,7 +15,8 @@
 //!
 //! `specs/Requests.antt` defines what comes for a request and the verdict; `specs/Sends.antt` what waits to be sent and
 //! which of it goes next; `specs/Sessions.antt` the receivers of a message, a datagram, a loss, and what a read returns;
-//! `specs/Histories.antt` whole lists of calls, of which [`laws`] speak.
+//! `specs/Histories.antt` whole lists of calls, of which [`laws`] speak. No call takes or returns a [`Request`], with its
+//! [`Stage`], an [`Entry`] or a [`Change`]: the laws speak of them.
 #![tactic(auto)]
 
 mod change;
@@ -35,10 +36,12 @@ mod session;
 mod spans;
 pub mod steps;
 
+pub use change::Change;
+pub use entry::Entry;
 pub use loss::Loss;
 pub use neli_answers::Answering;
 pub use reading::{Next, Reader};
 pub use receiving::Untaken;
-pub use request::Verdict;
+pub use request::{Request, Stage, Verdict};
 pub use sending::SendError;
 pub use session::Session;

@@ -24,7 +24,7 @@ use std::alloc::Global;
 
 /// How far the answer to a request has come.
 #[derive(Clone, Copy, Debug, PartialEq, Eq)]
-pub(crate) enum Stage {
+pub enum Stage {
     /// It waits to be sent.
     Queued,
     /// The link sends it, and something may come.
@@ -103,7 +103,7 @@ pub enum Verdict {
 
 /// A request whose number is in use.
 #[derive(Drop)]
-pub(crate) struct Request {
+pub struct Request {
     pub(crate) answering: Answering,
     /// It has the flag ECHO: the notification of its change is part of its answer.
     pub(crate) echoes: bool,

@@ -1,5 +1,4 @@
 use Rattle.std.proofs.Common.{arith}
-use Rattle.std.specs.Prelude.{None}
 use Rattle.neli_session.specs.Sessions.{at}
 use Rattle.neli_session.proofs.Entries.{added-more, back-more, free-more}
 use Rattle.neli_session.proofs.requests.add_all.Goals as goal
