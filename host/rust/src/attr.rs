@@ -264,10 +264,11 @@ impl<T: AttrNumber> Rtattr<T> {
         &self.payload
     }
 
-    /// The attribute with another one appended to its payload, and its flags as they were. Refused as [`SerError::Refused`] if the payload of that
-    /// one has more than 65531 bytes.
+    /// The attribute, marked as nested, with another one appended to its payload. Refused as [`SerError::Refused`] if
+    /// the payload of that one has more than 65531 bytes.
     pub fn nest<S: AttrNumber>(mut self, attribute: &Rtattr<S>) -> Result<Self, SerError> {
         put(&mut self.payload, attribute.field(), attribute.payload())?;
+        self.flags |= NESTED;
         Ok(self)
     }
 
@@ -419,7 +420,7 @@ impl<T: AttrNumber, P: ToBytes> RtattrBuilder<T, P> {
     }
 
     /// Whether it is marked as nested, by `NLA_F_NESTED`, as Linux requires it of newer attributes; it is not, if this
-    /// is not given.
+    /// is not given. [`nest`](Rtattr::nest) marks it.
     pub fn rta_nested(mut self, is_nested: bool) -> Self {
         self.flags = self.flags & !NESTED | if is_nested { NESTED } else { 0 };
         self

@@ -34,7 +34,7 @@ pub mod attr;
 pub mod connector;
 pub mod consts;
 pub mod err;
-mod errno;
+pub mod errno;
 mod ffi;
 pub mod genl;
 pub mod lent;

@@ -3,7 +3,7 @@
 use crate::attr::{AttrHandle, AttrList, Nlattr};
 use crate::consts::nl::{NlmF, NlmsgerrAttr};
 use crate::err::{BuildError, DeError, SerError, UninitializedFieldError, done, refused};
-use crate::errno;
+use crate::errno::Errno;
 use crate::ffi;
 use crate::{FromBytes, ToBytes};
 use std::fmt;
@@ -40,7 +40,8 @@ pub enum NlPayload<T, P> {
     DumpExtAck(Nlmsgerr<T>),
     /// A body.
     Payload(P),
-    /// Nothing.
+    /// Nothing; of a request of routing for objects, a router sends a header of zeros, without which Linux does not
+    /// answer.
     Empty,
 }
 
@@ -95,9 +96,14 @@ impl<T> Nlmsgerr<T> {
         self.error
     }
 
+    /// The error number; `None` of 0, and of a code above 0.
+    pub fn errno(&self) -> Option<Errno> {
+        Errno::of_code(self.error)
+    }
+
     /// The name of the error number, as `ENODEV`; `None` of 0, and of a number without a name.
     pub fn errno_name(&self) -> Option<&'static str> {
-        errno::name(self.error.checked_neg()?)
+        self.errno()?.name()
     }
 
     /// The header of the request.

@@ -10,6 +10,18 @@ use crate::{Fields, FromBytes, ToBytes};
 
 pub use crate::attr::{RtAttrHandle, Rtattr, RtattrBuilder};
 
+/// The size of a body's header, by the types of routing without their last two bits, in their order from 16 on; none of
+/// a type that Linux does not have.
+const HEADERS: [usize; 27] =
+    [16, 8, 12, 12, 12, 20, 20, 20, 4, 12, 8, 8, 4, 0, 12, 4, 1, 8, 1, 12, 1, 20, 8, 16, 8, 8, 8];
+
+/// The body of a request for all objects: a header of zeros. Linux does not answer a get without a header. None of
+/// another type than that of a get.
+pub(crate) fn default_body(kind: u16) -> &'static [u8] {
+    let place = kind.checked_sub(16).filter(|it| it % 4 == 2).map(|it| usize::from(it / 4));
+    &[0; 20][..place.and_then(|it| HEADERS.get(it)).map_or(0, |it| *it)]
+}
+
 /// A body of fields and attributes, its getters, its builder, and its reading and writing. A field is `name: type as
 /// number`; `gap` is the number of zeros before it.
 macro_rules! body {

@@ -29,7 +29,7 @@ use crate::ToBytes;
 use crate::consts::nl::NlmF;
 use crate::consts::socket::NlFamily;
 use crate::err::{DeError, Refusal, SerError, done, refused};
-use crate::errno;
+use crate::errno::Errno;
 use crate::ffi;
 use crate::ffi::tables::{Named, Sought, Tables};
 use crate::nl::{NlType, Nlmsgerr, Nlmsghdr, message_with};
@@ -96,7 +96,7 @@ impl KernelRefusal {
 
     /// The name of that number, as `EINVAL`; `None` where it has none.
     pub fn errno_name(&self) -> Option<&'static str> {
-        errno::name(self.errno)
+        Errno::from(self.errno).name()
     }
 
     /// The path of the attribute that the kernel refuses, where it says which and the tables know it.

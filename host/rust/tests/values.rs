@@ -37,7 +37,8 @@ fn a_link_is_written_and_read() {
     let bytes = [
         &[0, 0, 0, 0, 3, 0, 0, 0, 1, 0, 0, 0, 1, 0, 0, 0][..],
         &[6, 0, 3, 0, b'a', 0, 0, 0],
-        &[16, 0, 18, 0, 9, 0, 1, 0, b'v', b'e', b't', b'h', 0, 0, 0, 0],
+        // NLA_F_NESTED is bit 15 of the type.
+        &[16, 0, 18, 0x80, 9, 0, 1, 0, b'v', b'e', b't', b'h', 0, 0, 0, 0],
     ]
     .concat();
     assert_eq!(written(&link), bytes);
@@ -71,8 +72,9 @@ fn a_neighbour_is_written_and_read() {
 #[test]
 fn the_flags_of_a_type_field_are_kept() {
     let other = RtattrBuilder::default().rta_type(Ifla::AltIfname).rta_payload("b").build().expect("a name");
-    let list = RtattrBuilder::default().rta_type(Ifla::PropList).rta_nested(true).rta_payload(()).build();
-    let list = list.expect("a list").nest(&other).expect("nested");
+    let made = || RtattrBuilder::default().rta_type(Ifla::PropList).rta_payload(());
+    assert!(made().rta_nested(true).build().expect("a list").rta_nested());
+    let list = made().build().expect("a list").nest(&other).expect("nested");
     assert_eq!((list.rta_nested(), other.rta_nested(), *list.rta_type()), (true, false, Ifla::PropList));
     let marked = [12, 0, 52, 0x80, 6, 0, 53, 0, b'b', 0, 0, 0];
     let attributes: RtBuffer<Ifla> = [list].into_iter().collect();

@@ -2,11 +2,13 @@
 
 use super::verdict::Verdict;
 use crate::consts::nl::NlmF;
+use crate::consts::socket::NlFamily;
 use crate::err::{RouterError, SocketError, refused};
 use crate::ffi::{self, Reader};
 use crate::lent::LentMessage;
 use crate::link::{Arrived, Link};
 use crate::nl::message_with;
+use crate::rtnl::default_body;
 use std::collections::HashMap;
 use std::io;
 use std::ops::Range;
@@ -81,7 +83,9 @@ impl State {
             let flags = (*flags | NlmF::REQUEST).bits();
             let head = ffi::Message { kind: *kind, flags, number, port, ..ffi::Message::default() };
             datagram.extend(message_with(&head, body)?);
+        let is_routing = self.link.family() == NlFamily::Route;
             readers.push(Reader::Request(number));
+            let body = if is_routing && body.is_empty() { default_body(*kind) } else { body };
             number = number.wrapping_add(1);
         }
         let code = self.session.send_all(&datagram);

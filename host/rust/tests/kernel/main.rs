@@ -24,7 +24,7 @@ use neli::router::lending::LendingRouter;
 use neli::router::synchronous::{NlRouter, NlRouterReceiverHandle, Notice, Verdict};
 use neli::rtnl::{Ifinfomsg, RtattrBuilder};
 use neli::socket::synchronous::NlSocketHandle;
-use neli::types::Buffer;
+use neli::types::{Buffer, RtBuffer};
 use neli::utils::Groups;
 use space::alone;
 use std::io::ErrorKind;
@@ -168,8 +168,10 @@ fn a_refusal_has_a_text_and_an_offset() {
 /// The loopback link with another name, in a list that is marked as nested or not.
 fn other_name(is_nested: bool) -> Ifinfomsg {
     let text = RtattrBuilder::default().rta_type(Ifla::AltIfname).rta_payload("other").build().expect("a name");
-    let list = RtattrBuilder::default().rta_type(Ifla::PropList).rta_nested(is_nested).rta_payload(()).build();
-    let list = list.expect("a list").nest(&text).expect("a name in a list");
+    let empty = RtattrBuilder::default().rta_type(Ifla::PropList).rta_payload(()).build().expect("a list");
+    let names: RtBuffer<Ifla> = [text.clone()].into_iter().collect();
+    let unmarked = RtattrBuilder::default().rta_type(Ifla::PropList).rta_payload(names).build().expect("a list");
+    let list = if is_nested { empty.nest(&text).expect("a name in a list") } else { unmarked };
     link(1).rtattrs([list].into_iter().collect()).build().expect("a link")
 }
 
@@ -189,6 +191,36 @@ fn a_link_gets_another_name_by_a_nested_attribute() {
         assert!(list.rta_nested());
         let names = list.get_attr_handle::<Ifla>().expect("names");
         assert_eq!(names.get_attr_payload_as_with_len::<String>(Ifla::AltIfname).expect("a name"), "other");
+    });
+}
+
+/// A get of routing without a body has a header of zeros: of each type the kernel answers a dump, or refuses it.
+#[test]
+fn a_get_has_a_default_body() {
+    alone(|| {
+        let links = make_pairs(2);
+        let (router, _) = router(&[]);
+        let dump = |kind: u16| {
+            let empty = NlPayload::<u16, Buffer>::Empty;
+            router.dump::<_, _, u16, Buffer>(kind, NlmF::empty(), empty, 3).expect("a dump")
+        };
+        let count = |kind| match dump(kind) {
+            dump if dump.verdict == Verdict::Complete => dump.messages.len(),
+            dump => panic!("{kind}: {:?}, {:?}", dump.verdict, dump.error),
+        };
+        assert_eq!(count(u16::from(Rtm::Getlink)), links);
+        assert_eq!(count(u16::from(Rtm::Getaddr)), 0);
+        set_loopback(&router, true);
+        assert!(count(u16::from(Rtm::Getaddr)) > 0 && count(u16::from(Rtm::Getroute)) > 0);
+        // RTM_GETRULE and RTM_GETNEIGHTBL.
+        assert!(count(34) > 0 && count(66) > 0);
+        for kind in (18..=122).step_by(4).filter(|it| *it != 70) {
+            let verdict = dump(kind).verdict;
+            assert!(matches!(verdict, Verdict::Complete | Verdict::Failed(_)), "type {kind}: {verdict:?}");
+        }
+        let mut one =
+            router.send::<_, Buffer, Rtm, Ifinfomsg>(Rtm::Getlink, NlmF::ACK, NlPayload::Empty).expect("sent");
+        assert!(one.next().is_some_and(|it| it.is_err_and(|it| it.errno() == Some(EINVAL))));
     });
 }
 
