@@ -2,6 +2,7 @@
 
 use crate::ffi;
 use crate::nl::Nlmsgerr;
+use crate::socket::synchronous::is_end_of_wait;
 use std::error::Error;
 use std::fmt;
 use std::io;
@@ -176,6 +177,14 @@ impl RouterError {
     /// The error with these words.
     pub fn new(text: impl Into<String>) -> Self {
         RouterError::Msg(text.into())
+    }
+
+    /// Whether an answer may go on after it.
+    pub(crate) fn is_unended(&self) -> bool {
+        match self {
+            RouterError::Socket(error) => is_end_of_wait(error),
+            error => matches!(error, RouterError::Memory),
+        }
     }
 
     /// The number by which the kernel refuses, above 0, where it does.

@@ -3,10 +3,67 @@
 use super::kernel::{RawDump, Request};
 use super::tables::{Named, RawTables};
 use super::{Answer, Attribute, Bytes, Message, RawLent, RawSession, Verdict, Walk, Writer};
+use std::io::Write;
 use std::mem::offset_of;
+use std::process::{Command, Stdio};
 
 const HEADER: &str = include_str!(env!("NELI_FILE_NELI_H"));
 const DECLARED: &str = concat!(include_str!("ffi.rs"), include_str!("ffi/kernel.rs"), include_str!("ffi/tables.rs"));
+
+/// What `ffi.rs` takes of the C library, and what it has there, as a C program prints both: a number's value, a
+/// struct's size, or a field's place.
+const SYSTEM: [(&str, usize); 30] = [
+    ("AF_NETLINK", super::AF_NETLINK as usize),
+    ("SOCK_RAW", super::SOCK_RAW as usize),
+    ("SOCK_CLOEXEC", super::SOCK_CLOEXEC as usize),
+    ("SOL_NETLINK", super::SOL_NETLINK as usize),
+    ("NETLINK_PKTINFO", super::NETLINK_PKTINFO as usize),
+    ("NETLINK_LIST_MEMBERSHIPS", super::NETLINK_LIST_MEMBERSHIPS as usize),
+    ("MSG_TRUNC", super::MSG_TRUNC as usize),
+    ("MSG_DONTWAIT", super::MSG_DONTWAIT as usize),
+    ("POLLIN", super::POLLIN as usize),
+    ("EFD_CLOEXEC", super::EFD_CLOEXEC as usize),
+    ("EFD_NONBLOCK", super::EFD_NONBLOCK as usize),
+    ("sizeof(struct sockaddr_nl)", size_of::<super::Address>()),
+    ("offsetof(struct sockaddr_nl, nl_pid)", offset_of!(super::Address, port)),
+    ("offsetof(struct sockaddr_nl, nl_groups)", offset_of!(super::Address, groups)),
+    ("sizeof(struct iovec)", size_of::<super::Slice>()),
+    ("offsetof(struct iovec, iov_len)", offset_of!(super::Slice, length)),
+    ("sizeof(struct msghdr)", size_of::<super::Header>()),
+    ("offsetof(struct msghdr, msg_namelen)", offset_of!(super::Header, name_size)),
+    ("offsetof(struct msghdr, msg_iov)", offset_of!(super::Header, slices)),
+    ("offsetof(struct msghdr, msg_iovlen)", offset_of!(super::Header, slice_count)),
+    ("offsetof(struct msghdr, msg_control)", offset_of!(super::Header, control)),
+    ("offsetof(struct msghdr, msg_controllen)", offset_of!(super::Header, control_size)),
+    ("offsetof(struct msghdr, msg_flags)", offset_of!(super::Header, flags)),
+    ("CMSG_SPACE(sizeof(struct nl_pktinfo))", size_of::<super::Control>()),
+    ("CMSG_LEN(sizeof(struct nl_pktinfo))", super::CONTROL_SIZE),
+    ("offsetof(struct cmsghdr, cmsg_type)", offset_of!(super::Control, kind)),
+    ("CMSG_LEN(0)", offset_of!(super::Control, group)),
+    ("sizeof(struct pollfd)", size_of::<super::Watched>()),
+    ("offsetof(struct pollfd, events)", offset_of!(super::Watched, events)),
+    ("offsetof(struct pollfd, revents)", offset_of!(super::Watched, found)),
+];
+
+#[test]
+fn the_system_has_these_structs_and_numbers() {
+    let shown: String = SYSTEM.iter().map(|(it, _)| format!("printf(\"%zu\\n\", (size_t)({it}));")).collect();
+    let headers = ["linux/netlink.h", "poll.h", "stddef.h", "stdio.h", "sys/eventfd.h", "sys/socket.h", "sys/uio.h"];
+    let headers: String = headers.iter().map(|it| format!("#include <{it}>\n")).collect();
+    let program = std::env::temp_dir().join(format!("neli_system_{}", std::process::id()));
+    let mut cc = Command::new("cc");
+    cc.args(["-x", "c", "-", "-o"]).arg(&program).stdin(Stdio::piped());
+    let Ok(mut compiler) = cc.spawn() else { return println!("not run: there is no C compiler") };
+    let text = format!("#define _GNU_SOURCE\n{headers}int main(void) {{ {shown} return 0; }}\n");
+    compiler.stdin.take().expect("a pipe").write_all(text.as_bytes()).expect("it is written");
+    assert!(compiler.wait().is_ok_and(|it| it.success()));
+    let said = Command::new(&program).output().expect("it runs").stdout;
+    std::fs::remove_file(&program).expect("it is removed");
+    let said = String::from_utf8(said).expect("numbers");
+    let found: Vec<(&str, usize)> =
+        SYSTEM.iter().zip(said.lines()).map(|((name, _), it)| (*name, it.parse().expect("a number"))).collect();
+    assert_eq!(found, SYSTEM);
+}
 
 /// The codes that this crate names.
 const CODES: [(&str, i32); 17] = [

@@ -6,8 +6,12 @@ use crate::ffi::Reader;
 use crate::link::Link;
 use crate::socket::synchronous::Wait;
 use std::sync::{Arc, Condvar, Mutex, MutexGuard, PoisonError};
+use std::task::{Poll, Waker};
 
 type Locked<'s> = MutexGuard<'s, State>;
+
+/// The number of datagrams after which a task lets others run.
+const AT_ONCE: usize = 64;
 
 /// One of the waiting threads watches the link. A thread in a call receives datagrams under the lock, which keeps the
 /// link's order, and wakes their readers. One thread at a time sends, without the lock.
@@ -61,7 +65,7 @@ impl Shared {
                 flushed = ended;
             } else {
                 // Who waits for its answer saw the link empty before: it learns so whether nothing comes.
-                state.wake_watcher();
+                state.wake_watchers();
             }
         }
         flushed.map(|()| (state, has_sent))
@@ -121,6 +125,33 @@ impl Shared {
                 (self.wait(state, reader, &wait)?, true)
             };
         }
+    }
+
+    /// The same for a task: it waits for nothing, and where nothing is there has the task woken once something may be.
+    pub(super) fn poll<T>(
+        &self,
+        reader: Reader,
+        task: &Waker,
+        take: impl Fn(&mut State, Reader) -> Option<Result<T, RouterError>>,
+    ) -> Poll<Result<T, RouterError>> {
+        let (mut state, mut goes_on) = (self.state(), true);
+        for count in 0..AT_ONCE {
+            if let Some(next) = take(&mut state, reader) {
+                state.tasks.remove(&reader);
+                return Poll::Ready(next);
+            }
+            if !goes_on {
+                state.tasks.insert(reader, task.clone());
+                return Poll::Pending;
+            }
+            let has_link = if count == 0 { Ok(()) } else { state.want_link() };
+            (state, goes_on) = match has_link.and_then(|()| self.turn(state)) {
+                Ok(turned) => turned,
+                Err(error) => return Poll::Ready(Err(error)),
+            };
+        }
+        task.wake_by_ref();
+        Poll::Pending
     }
 
     /// Waits until something has arrived for a reader, or at the link; refused if the wait has ended.

@@ -13,6 +13,7 @@ use std::collections::HashMap;
 use std::io;
 use std::ops::Range;
 use std::sync::{Arc, Condvar};
+use std::task::Waker;
 
 /// The number of consecutive faults that mean that the link is gone.
 const FAULTS: u32 = 8;
@@ -51,6 +52,8 @@ pub(super) struct State {
     /// The reader that waits at the link, if one does, and the bells of the others that wait.
     pub(super) watcher: Option<Reader>,
     pub(super) bells: HashMap<Reader, Arc<Condvar>>,
+    /// The tasks that wait for a reader.
+    pub(super) tasks: HashMap<Reader, Waker>,
 }
 
 impl State {
@@ -70,6 +73,7 @@ impl State {
             others: Vec::new(),
             watcher: None,
             bells: HashMap::new(),
+            tasks: HashMap::new(),
         })
     }
 
@@ -79,13 +83,13 @@ impl State {
     pub(super) fn queue(&mut self, requests: &[Request]) -> Result<Vec<Reader>, RouterError> {
         let (mut datagram, mut readers) = (Vec::new(), Vec::new());
         let (port, mut number) = (self.link.port(), self.number);
+        let is_routing = self.link.family() == NlFamily::Route;
         for (kind, flags, body) in requests {
+            let body = if is_routing && body.is_empty() { default_body(*kind) } else { body };
             let flags = (*flags | NlmF::REQUEST).bits();
             let head = ffi::Message { kind: *kind, flags, number, port, ..ffi::Message::default() };
             datagram.extend(message_with(&head, body)?);
-        let is_routing = self.link.family() == NlFamily::Route;
             readers.push(Reader::Request(number));
-            let body = if is_routing && body.is_empty() { default_body(*kind) } else { body };
             number = number.wrapping_add(1);
         }
         let code = self.session.send_all(&datagram);
@@ -204,16 +208,22 @@ impl State {
                 bell.notify_one();
             }
         }
+        for (reader, task) in &self.tasks {
+            if self.session.next(*reader).0 != ffi::WAITS {
+                task.wake_by_ref();
+            }
+        }
         if self.watcher.is_some_and(|it| self.session.next(it).0 != ffi::WAITS) {
             self.link.wake();
         }
     }
 
-    /// Has the reader that waits at the link, if one does, look once more.
-    pub(super) fn wake_watcher(&self) {
+    /// Has the reader that waits at the link, if one does, look once more, and each task.
+    pub(super) fn wake_watchers(&self) {
         if self.watcher.is_some() {
             self.link.wake();
         }
+        self.tasks.values().for_each(Waker::wake_by_ref);
     }
 
     /// Wakes another reader to watch the link, if none does.
@@ -274,6 +284,7 @@ impl State {
 
     /// Nobody reads here any more.
     pub(super) fn close(&mut self, reader: Reader) {
+        self.tasks.remove(&reader);
         match reader {
             Reader::Request(number) => self.session.close(number),
             Reader::Multicast => self.session.close_multicast(),

@@ -14,14 +14,14 @@ use crate::err::RouterError;
 use crate::ffi::Reader;
 use crate::link::{Link, LinkOption};
 use crate::nl::{NlPayload, NlType, Nlmsghdr};
-use crate::socket::synchronous::{NlSocketHandle, is_end_of_wait, is_stop};
+use crate::socket::synchronous::{NlSocketHandle, is_stop};
 use crate::types::Buffer;
 use crate::utils::{Groups, NetlinkBitArray};
 use crate::{FromBytes, ToBytes};
 use std::marker::PhantomData;
 use std::os::fd::{AsFd, BorrowedFd};
 use std::sync::Arc;
-use std::task::Poll;
+use std::task::{Context, Poll};
 
 /// A router over a link of its own, by default a socket. Handles can outlive it. What the link refuses is refused as
 /// [`RouterError::Socket`] with its error.
@@ -172,6 +172,12 @@ impl<L: Link + 'static> NlRouter<L> {
         self.shared.receive_all(|_| {})
     }
 
+    /// Wakes each task that waits for a handle, by [`poll_next`](NlRouterReceiverHandle::poll_next), so that one of them
+    /// takes in what has arrived. For a reactor, once the descriptor is readable.
+    pub fn wake_tasks(&self) {
+        self.shared.state().wake_watchers();
+    }
+
     /// Ends every current wait at a handle, and each later one, with the system's `ECANCELED`; after it the handle
     /// ends. What has arrived can still be read.
     pub fn stop(&self) {
@@ -305,6 +311,35 @@ impl<T, P> NlRouterReceiverHandle<T, P> {
         })
     }
 
+    /// The next reply, if it has been taken in or has arrived; it does not wait. Otherwise the task of this context is
+    /// woken once a call of the router takes something in for this handle; that it has arrived is for a reactor to
+    /// say, by [`NlRouter::wake_tasks`]. One task waits for a handle at a time. Else as
+    /// [`next_typed`](NlRouterReceiverHandle::next_typed).
+    pub fn poll_next(&mut self, context: &mut Context<'_>) -> Poll<Option<Reply<T, P>>>
+    where
+        T: NlType,
+        P: FromBytes,
+    {
+        let next = if self.is_stopped { Poll::Ready(Ok(None)) } else { self.poll_read(context) };
+        next.map(|it| it.transpose().map(|it| self.typed(it)))
+    }
+
+    /// The next notice, as [`listen`](NlRouterReceiverHandle::listen) returns it and
+    /// [`poll_next`](NlRouterReceiverHandle::poll_next) waits for it.
+    pub fn poll_listen<TT: NlType, PP: FromBytes>(
+        &mut self,
+        context: &mut Context<'_>,
+    ) -> Poll<Result<Notice<TT, PP>, RouterError>> {
+        if self.reader != Reader::Multicast {
+            return Poll::Ready(Err(RouterError::ClosedChannel));
+        }
+        self.poll_read(context).map(Notice::of_read)
+    }
+
+    fn poll_read(&self, context: &Context<'_>) -> Poll<Result<Option<Owned>, RouterError>> {
+        self.shared.poll(self.reader, context.waker(), State::read)
+    }
+
     /// The next notice from multicast, read as these types: a message that can't be read as them is returned as it
     /// arrived, and a loss by its name, each in its place. More follow after any of them.
     ///
@@ -313,17 +348,7 @@ impl<T, P> NlRouterReceiverHandle<T, P> {
         if self.reader != Reader::Multicast {
             return Err(RouterError::ClosedChannel);
         }
-        match self.shared.next(self.reader, State::read) {
-            Ok(Some((head, payload))) => Ok(match Nlmsghdr::of_message(&payload, &head) {
-                Ok(message) => Notice::Message(message),
-                Err(_) => Notice::Untyped(Nlmsghdr::of_message(&payload, &head).map_err(RouterError::De)),
-            }),
-            Ok(None) => Err(RouterError::ClosedChannel),
-            Err(RouterError::De(error)) => Ok(Notice::Untyped(Err(error.into()))),
-            Err(error) if is_unended(&error) => Err(error),
-            Err(RouterError::Socket(error)) => Ok(Notice::Missed(Missed::of(error))),
-            Err(error) => Err(error),
-        }
+        Notice::of_read(self.shared.next(self.reader, State::read))
     }
 
     /// The verdict on the answer to its request, by the replies that were returned: whether they are all. It is
@@ -403,7 +428,7 @@ fn dump_once<RT: NlType, RP: FromBytes>(
                 messages.push(message);
                 None
             }
-            Err(error) if is_unended(&error) => return Err(error),
+            Err(error) if error.is_unended() => return Err(error),
             Err(error) => Some(error),
         };
         first_error = first_error.or(error);
@@ -414,14 +439,6 @@ fn dump_once<RT: NlType, RP: FromBytes>(
         verdict => verdict,
     };
     Ok(Dump { messages, verdict, is_filtered: replies.is_filtered(), error: first_error })
-}
-
-/// Whether an answer may go on after this error.
-fn is_unended(error: &RouterError) -> bool {
-    match error {
-        RouterError::Socket(error) => is_end_of_wait(error),
-        error => matches!(error, RouterError::Memory),
-    }
 }
 
 impl<T: NlType, P: FromBytes> Iterator for NlRouterReceiverHandle<T, P> {
