@@ -1,2 +1,5 @@
+mod Blocks
+mod Powers
 mod Records
+mod Rows
 mod Texts

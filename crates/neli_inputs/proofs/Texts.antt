@@ -6,20 +6,19 @@ use Rattle.std.proofs.lemmas.List.Folds.{flat_map-map}
 use Rattle.std.proofs.lemmas.Simd.{map-map}
 use Rattle.neli_inputs.specs.declared.line.Line.{Line}
 use Rattle.neli_inputs.specs.declared.item.Item.{Item}
-use Rattle.neli_inputs.specs.Lines.{line_of}
 use Rattle.neli_inputs.specs.Text.{items_in, uncooked}
 
-pub spelled : (texts : List (Bor (List ℕ))) (lines : List (List ℕ)) (bytes : List ℕ)
+pub spelled : (line_of : List ℕ → Line × List ℕ) (texts : List (Bor (List ℕ))) (lines : List (List ℕ)) (bytes : List ℕ)
     → map (λ (t : Bor (List ℕ)). t.now) texts ≡ lines → bytes ≡ flat_map (λ (t : Bor (List ℕ)). (line_of t.now).1) texts
     → bytes ≡ flat_map (λ (l : List ℕ). (line_of l).1) lines
-spelled texts lines bytes lent h =
+spelled line_of texts lines bytes lent h =
     h ∙ sym (flat_map-map (λ (l : List ℕ). (line_of l).1) (λ (t : Bor (List ℕ)). t.now) texts)
     ∙ ap (flat_map (λ (l : List ℕ). (line_of l).1)) lent
 
-pub said : (texts : List (Bor (List ℕ))) (lines : List (List ℕ)) (read : List Line)
+pub said : (line_of : List ℕ → Line × List ℕ) (texts : List (Bor (List ℕ))) (lines : List (List ℕ)) (read : List Line)
     → map (λ (t : Bor (List ℕ)). t.now) texts ≡ lines → read ≡ map (λ (t : Bor (List ℕ)). (line_of t.now).0) texts
     → read ≡ map (λ (l : List ℕ). (line_of l).0) lines
-said texts lines read lent h =
+said line_of texts lines read lent h =
     h ∙ sym (map-map (λ (l : List ℕ). (line_of l).0) (λ (t : Bor (List ℕ)). t.now) texts)
     ∙ ap (map (λ (l : List ℕ). (line_of l).0)) lent
 

@@ -1,6 +1,10 @@
 pub mod Cooked
 pub mod Inputs
+pub mod Items
 pub mod Lines
+pub mod Orders
 pub mod Pcap
+pub mod Pcapng
 pub mod Refusals
 pub mod Text
+pub mod Times

@@ -2,15 +2,17 @@
 use Rattle.std.specs.Prelude.{◌≡◌, ℕ, ◌+◌, ◌-◌, Bool, true, false, ◌&&◌, not, ◌==◌, nat_lt, nat_le, if◌then◌else◌, List}
 use Rattle.std.specs.Prelude.{[], ◌∷◌, ◌++◌, length, slice_range, map, Option, Some, None, Result, Ok, Err}
 use Rattle.std.specs.List.{flat_map, list_any, slice_split}
+use Rattle.neli_inputs.specs.declared.cooked.Cooked.{Cooked}
 use Rattle.neli_inputs.specs.declared.item.Item.{Item}
 use Rattle.neli_inputs.specs.declared.item.Packet.{Packet}
 use Rattle.neli_inputs.specs.declared.item.Refusal.{Refusal}
-use Rattle.neli_inputs.specs.declared.item.Refusal.TheVariants.{Gap, NotHex}
+use Rattle.neli_inputs.specs.declared.item.Refusal.TheVariants.{Gap, LeftOut, NotHex}
 use Rattle.neli_inputs.specs.declared.line.Line.{Line}
-use Rattle.neli_inputs.specs.declared.line.Line.TheVariants.{Empty, Bytes, Dump, Other}
+use Rattle.neli_inputs.specs.declared.line.Line.TheVariants as line
 use Rattle.neli_inputs.specs.declared.text.Begun.{Begun}
-use Rattle.neli_inputs.specs.Cooked.{cooked_family}
-use Rattle.neli_inputs.specs.Lines.{count_in, line_of}
+use Rattle.neli_inputs.specs.Cooked.{cooked_by_first}
+use Rattle.neli_inputs.specs.Items.{bare_item}
+use Rattle.neli_inputs.specs.Lines.{count_in, is_addressed, line_of}
 
 -- the lines of a text: the parts between its line feeds
 abbrev pub lines_in : List ℕ → List (List ℕ)
@@ -18,7 +20,7 @@ lines_in text = slice_split (λ b. b == 10) text
 
 -- the line is one of a dump
 abbrev pub is_dump : Line → Bool
-is_dump (Dump offset count) = true
+is_dump (line.Dump offset count) = true
 is_dump line = false
 
 -- ---- the effect of a line on the open datagram, which has the bytes up to `place`
@@ -30,18 +32,20 @@ continues (Some begun) place offset = nat_lt begun.start place && (offset == (pl
 
 -- any other line of a dump ends it, and so does a line without bytes
 abbrev pub ends : Option Begun → ℕ → Line → Bool
-ends begun place Empty = true
-ends begun place (Bytes count) = false
-ends begun place (Dump offset count) = not (continues begun place offset)
-ends begun place Other = true
+ends begun place line.Empty = true
+ends begun place (line.Bytes count) = false
+ends begun place (line.Dump offset count) = not (continues begun place offset)
+ends begun place line.LeftOut = true
+ends begun place line.Other = true
 
 -- a dump begins with offset 0; a line that is not hexadecimal is a heading if the text has dumps
 abbrev pub refusal_of : Bool → Option Begun → ℕ → Line → Option Refusal
-refusal_of dumps begun place Empty = None
-refusal_of dumps begun place (Bytes count) = None
-refusal_of dumps begun place (Dump offset count) =
+refusal_of dumps begun place line.Empty = None
+refusal_of dumps begun place (line.Bytes count) = None
+refusal_of dumps begun place (line.Dump offset count) =
     if (offset == 0) then None else (if continues begun place offset then None else Some Gap)
-refusal_of dumps begun place Other = if dumps then None else Some NotHex
+refusal_of dumps begun place line.LeftOut = Some LeftOut
+refusal_of dumps begun place line.Other = if dumps then None else Some NotHex
 
 -- the open datagram, or else a new one
 abbrev pub begun_or_new : Option Begun → ℕ → ℕ → Begun
@@ -50,12 +54,13 @@ begun_or_new None number place = record { line = number; start = place }
 
 -- the open datagram after line `number`
 abbrev pub begun_after : Option Begun → ℕ → ℕ → Line → Option Begun
-begun_after begun number place Empty = None
-begun_after begun number place (Bytes count) = Some (begun_or_new begun number place)
-begun_after begun number place (Dump offset count) =
+begun_after begun number place line.Empty = None
+begun_after begun number place (line.Bytes count) = Some (begun_or_new begun number place)
+begun_after begun number place (line.Dump offset count) =
     if (offset == 0) then Some (record { line = number; start = place })
     else (if continues begun place offset then begun else None)
-begun_after begun number place Other = None
+begun_after begun number place line.LeftOut = None
+begun_after begun number place line.Other = None
 
 -- ---- the items
 
@@ -63,7 +68,7 @@ begun_after begun number place Other = None
 abbrev pub closed : Option Begun → ℕ → List Item
 closed None place = []
 closed (Some begun) place =
-    record { place = begun.line; packet = Ok (record { family = None; start = begun.start; «end» = place }) } ∷ []
+    bare_item begun.line begun.start place ∷ []
 
 -- the item of a line that is refused
 abbrev pub refused : ℕ → Option Refusal → List Item
@@ -89,24 +94,31 @@ items_in lines = items_from (list_any is_dump lines) 1 0 None lines
 
 -- ---- cooked headers
 
--- the family of a datagram after a cooked header
-abbrev pub family_in : List ℕ → Packet → Option ℕ
-family_in bytes packet =
+-- the cooked header of 16 bytes at the front of a datagram
+abbrev pub cooked_in : List ℕ → Packet → Option Cooked
+cooked_in bytes packet =
     if nat_le packet.start packet.«end» && nat_le packet.«end» (length bytes)
-    then cooked_family (slice_range bytes packet.start packet.«end») else None
+    then cooked_by_first (slice_range bytes packet.start packet.«end») else None
 
--- the datagram without that header
-abbrev pub after_header : Item → Packet → Option ℕ → Item
+-- the datagram without that header, which gives its family and its kind
+abbrev pub after_header : Item → Packet → Option Cooked → Item
 after_header item packet None = item
-after_header item packet (Some family) =
+after_header item packet (Some cooked) =
     record {
       place = item.place;
-      packet = Ok (record { family = Some family; start = packet.start + 16; «end» = packet.«end» });
+      packet = Ok (record {
+        family = Some cooked.family;
+        kind = Some cooked.kind;
+        time = packet.time;
+        interface = packet.interface;
+        start = packet.start + cooked.size;
+        «end» = packet.«end»;
+      });
     }
 
 -- a refusal is unchanged
 abbrev pub uncooked_by : List ℕ → Item → Result Packet Refusal → Item
-uncooked_by bytes item (Ok packet) = after_header item packet (family_in bytes packet)
+uncooked_by bytes item (Ok packet) = after_header item packet (cooked_in bytes packet)
 uncooked_by bytes item (Err refusal) = item
 
 -- an item without the cooked header that its datagram may have
@@ -116,5 +128,6 @@ uncooked bytes item = uncooked_by bytes item item.packet
 -- the bytes of a text, and its items
 abbrev pub IsText : List ℕ → List ℕ → List Item → Type 0
 IsText text bytes items =
-    (bytes ≡ flat_map (λ line. (line_of line).1) (lines_in text))
-    × (items ≡ map (uncooked bytes) (items_in (map (λ line. (line_of line).0) (lines_in text))))
+    let addressed = is_addressed (lines_in text) in
+    (bytes ≡ flat_map (λ line. (line_of addressed line).1) (lines_in text))
+    × (items ≡ map (uncooked bytes) (items_in (map (λ line. (line_of addressed line).0) (lines_in text))))

@@ -12,8 +12,11 @@ mod cooked;
 mod input;
 mod item;
 mod line;
+mod order;
 pub mod pcap;
+pub mod pcapng;
 pub mod text;
+mod time;
 
 pub use input::read_input;
 pub use item::{Input, Item, Packet, Refusal};

@@ -1,4 +1,4 @@
-//! A pcap file of `nlmon`.
+//! A pcap file.
 //!
 //! ```text
 //!  0       4       8       12      16      20      24
@@ -7,18 +7,20 @@
 //!  +-------+-------+-------+-------+-------+-------+
 //!  | seconds       | fraction | kept  | length |             a record's header
 //!  +---------------+----------+-------+--------+
-//!  | cooked header, 16 bytes | datagram - - - |              as many bytes as were kept
+//!  | cooked header | datagram - - - - - - - - |              as many bytes as were kept
 //! ```
 //!
-//! The magic number shows the byte order of the numbers; those of the cooked header have their high byte first. The
-//! fraction counts microseconds or nanoseconds, which makes no difference here.
+//! The magic number shows the byte order of the numbers, and whether the fraction counts microseconds or nanoseconds.
 
 ghost use Rattle.std.specs.Prelude.{◌≡◌, ◌≤◌, ◌<◌, ◌+◌, ◌^◌, [], ◌∷◌, length, IfOk};
-ghost use Rattle.neli_inputs.specs.Pcap.{ArePcapItems, end_in, number_in, order_of, packet_in, record_end};
+ghost use Rattle.neli_inputs.specs.Pcap.{ArePcapItems, AreRecords, end_in, nanoseconds_of, order_of, packet_in};
+ghost use Rattle.neli_inputs.specs.Pcap.{record_end, time_in};
 
-use crate::cooked::{COOKED_HEADER, cooked_family};
+use crate::cooked::{cooked_by, is_read};
 use crate::item::{Item, Packet, Refusal};
-use byteorder::{BigEndian, ByteOrder, LittleEndian};
+pub use crate::order::Order;
+use crate::order::number_in;
+use byteorder::{ByteOrder, LittleEndian};
 use std::alloc::{AllocError, Global};
 
 /// The size of the file's header in bytes.
@@ -27,16 +29,15 @@ const FILE_HEADER: usize = 24;
 /// The size of a record's header in bytes.
 const RECORD_HEADER: usize = 16;
 
-/// The link type of netlink packets (`LINKTYPE_NETLINK`).
-const LINKTYPE_NETLINK: u32 = 253;
-
-/// The byte order of a file's numbers.
+/// How the records of a file are read.
 #[derive(Clone, Copy, Debug, PartialEq, Eq)]
-pub enum Order {
-    /// The low byte first.
-    Little,
-    /// The high byte first.
-    Big,
+pub(crate) struct Records {
+    /// The byte order of their numbers.
+    pub order: Order,
+    /// Whether the fractions of their times are nanoseconds, and not microseconds.
+    pub has_nanoseconds: bool,
+    /// Their link type.
+    pub link: u32,
 }
 
 /// The order of a pcap file's numbers, if these bytes begin with one of the four magic numbers.
@@ -53,14 +54,15 @@ pub fn order_of(file: &[u8]) -> Option<Order>
     }
 }
 
-/// The number in the four bytes at this offset.
-fn number_in(order: Order, bytes: &[u8], after: usize) -> u32
-    requires { after + 4 ≤ length bytes.now }
-    ensures { result ≡ number_in order bytes.now after }
+/// A fraction of a second, in nanoseconds.
+fn nanoseconds_of(has_nanoseconds: bool, fraction: u32) -> u64
+    ensures value { result ≡ nanoseconds_of has_nanoseconds fraction }
+    ensures within { result < 2 ^ 43 }
 {
-    match order {
-        Order::Little => LittleEndian::read_u32(&bytes[after..]),
-        Order::Big => BigEndian::read_u32(&bytes[after..]),
+    if has_nanoseconds {
+        u64::from(fraction)
+    } else {
+        u64::from(fraction) * 1000
     }
 }
 
@@ -80,22 +82,35 @@ fn record_end(order: Order, bytes: &[u8]) -> Result<usize, Refusal>
     Ok(RECORD_HEADER + kept)
 }
 
-/// The packet of the record at the front of a file's bytes from `place` on.
-fn packet_in(order: Order, bytes: &[u8], place: usize) -> Result<Packet, Refusal>
-    requires { place + length bytes.now < 2 ^ 64 }
-    ensures { result ≡ packet_in order bytes.now place }
+/// When the record at the front was recorded, in nanoseconds.
+fn time_in(records: Records, bytes: &[u8]) -> u64
+    requires { 16 ≤ length bytes.now }
+    ensures { result ≡ time_in records bytes.now }
 {
-    let end = record_end(order, bytes)?;
-    let length = number_in(order, bytes, 12);
+    let seconds = u64::from(number_in(records.order, bytes, 0));
+    let fraction = number_in(records.order, bytes, 4);
+    seconds * 1_000_000_000 + nanoseconds_of(records.has_nanoseconds, fraction)
+}
+
+/// The packet of the record at the front of a file's bytes from `place` on.
+fn packet_in(records: Records, bytes: &[u8], place: usize) -> Result<Packet, Refusal>
+    requires { place + length bytes.now < 2 ^ 63 }
+    ensures { result ≡ packet_in records bytes.now place }
+{
+    let end = record_end(records.order, bytes)?;
+    let length = number_in(records.order, bytes, 12);
     if end - RECORD_HEADER < length as usize {
         return Err(Refusal::Snapped(length));
     }
-    let Some(family) = cooked_family(&bytes[RECORD_HEADER..end]) else {
+    let Some(cooked) = cooked_by(records.link, &bytes[RECORD_HEADER..end]) else {
         return Err(Refusal::NotNetlink);
     };
     Ok(Packet {
-        family: Some(family),
-        start: place + RECORD_HEADER + COOKED_HEADER,
+        family: Some(cooked.family),
+        kind: Some(cooked.kind),
+        time: Some(time_in(records, bytes)),
+        interface: None,
+        start: place + RECORD_HEADER + cooked.size,
         end: place + end,
     })
 }
@@ -125,10 +140,26 @@ fn refused(alloc: Global, place: usize, refusal: Refusal) -> Result<Vec<Item>, A
     Ok(items)
 }
 
+/// The items of the records of a file.
+fn read_records(alloc: Global, records: Records, file: &[u8]) -> Result<Vec<Item>, AllocError>
+    requires { 24 ≤ length file.now }
+    ensures { IfOk result (λ items. AreRecords records file.now 24 items.items (length file.now)) }
+{
+    let mut items = Vec::new(alloc);
+    let mut place = FILE_HEADER;
+    while place < file.len() {
+        let bytes = &file[place..];
+        let packet = packet_in(records, bytes, place);
+        items.push(Item { place, packet })?;
+        place += end_in(records.order, bytes);
+    }
+    Ok(items)
+}
+
 /// Returns the packets of a pcap file whose numbers are in this order, each a datagram or refused.
 ///
-/// A file that ends inside a record has a refusal last. A file with an incomplete header, or of another link type, has
-/// one refusal and nothing else.
+/// A file that ends inside a record has a refusal last. A file with an incomplete header, or of a link type without
+/// netlink packets, has one refusal and nothing else.
 pub fn read_pcap(alloc: Global, order: Order, file: &[u8]) -> Result<Vec<Item>, AllocError>
     ensures { IfOk result (λ items. ArePcapItems order file.now items.items) }
 {
@@ -136,16 +167,14 @@ pub fn read_pcap(alloc: Global, order: Order, file: &[u8]) -> Result<Vec<Item>, 
         return refused(alloc, 0, Refusal::FileHeader);
     }
     let link = number_in(order, file, 20);
-    if link != LINKTYPE_NETLINK {
+    if !is_read(link) {
         return refused(alloc, 20, Refusal::LinkType(link));
     }
-    let mut items = Vec::new(alloc);
-    let mut place = FILE_HEADER;
-    while place < file.len() {
-        let bytes = &file[place..];
-        let packet = packet_in(order, bytes, place);
-        items.push(Item { place, packet })?;
-        place += end_in(order, bytes);
-    }
-    Ok(items)
+    let has_nanoseconds = number_in(order, file, 0) == 0xa1b2_3c4d;
+    let records = Records {
+        order,
+        has_nanoseconds,
+        link,
+    };
+    read_records(alloc, records, file)
 }

@@ -1,26 +1,29 @@
 //! Hexadecimal text, as pasted from a terminal.
 //!
-//! A text has lines of four kinds, with spaces, tabs and carriage returns anywhere in them:
+//! A text has lines of these kinds, with spaces, tabs and carriage returns anywhere in them:
 //!
 //! ```text
 //!  14000000 1200 05 03                                   bytes alone
 //!  00000000: 1400 0000 1200 0103  ........               a line of xxd
 //!         0x0010:  0000 0000                             a line of tcpdump -x
+//!  00000010  00 00 00 00 12 00 01 03  00 00  |..........|  a row of hexdump -C, od -Ax -tx1, tshark -x or strace
+//!  *                                                     bytes that are left out
 //!  12:00:00.000000 [|netlink]                            something else, as a heading
 //! ```
 //!
 //! Bytes on adjacent lines are one datagram. It ends at an empty line, at a heading, and where a dump begins again with
-//! offset 0. The words of a dump's line end at two adjacent blanks; the part to their right is not read.
+//! offset 0. The words of a dump's line end at two adjacent blanks, but for the gap in the middle of a row; the part to
+//! their right is not read. A row of digits alone is one where the first line of bytes is a row with offset 0.
 
-ghost use Rattle.std.specs.Prelude.{◌≡◌, ◌<◌, ◌^◌, ◌++◌, length, map, sum_by, IfOk, OnOk};
+ghost use Rattle.std.specs.Prelude.{◌≡◌, ◌≤◌, ◌<◌, ◌+◌, ◌^◌, ◌++◌, length, map, sum_by, IfOk, IfSome, OnOk};
 ghost use Rattle.std.specs.List.{flat_map, list_any};
-ghost use Rattle.neli_inputs.specs.Lines.{count_in, line_of};
-ghost use Rattle.neli_inputs.specs.Text.{IsText, closed, continues, ends, family_in, is_dump, items_in, lines_in};
+ghost use Rattle.neli_inputs.specs.Lines.{count_in, is_addressed, line_of};
+ghost use Rattle.neli_inputs.specs.Text.{IsText, closed, continues, cooked_in, ends, is_dump, items_in, lines_in};
 ghost use Rattle.neli_inputs.specs.Text.{begun_after, refusal_of, refused, uncooked};
 
-use crate::cooked::{COOKED_HEADER, cooked_family};
-use crate::item::{Input, Item, Packet, Refusal};
-use crate::line::{Line, read_line};
+use crate::cooked::{Cooked, cooked_by_first};
+use crate::item::{Input, Item, Packet, Refusal, bare_item};
+use crate::line::{Line, begins_addressed, read_line};
 use std::alloc::{AllocError, Global};
 
 /// A datagram that further lines may continue: the number of its first line, and the index of its first byte.
@@ -44,19 +47,31 @@ fn lines_of<'t>(alloc: Global, text: &'t [u8]) -> Result<Vec<&'t [u8]>, AllocErr
     text.split(|byte| *byte == b'\n').collect(alloc)
 }
 
+/// Whether lines begin with an offset, as the first of them with bytes shows.
+fn is_addressed(alloc: Global, texts: &[&[u8]]) -> Result<bool, AllocError>
+    ensures { IfOk result (λ is. is ≡ is_addressed (map (λ t. t.now) texts.now)) }
+{
+    for text in texts {
+        if let Some(begins) = begins_addressed(alloc, text)? {
+            return Ok(begins);
+        }
+    }
+    Ok(false)
+}
+
 /// Reads these lines.
-fn read_lines(alloc: Global, texts: &[&[u8]]) -> Result<Lines, AllocError>
+fn read_lines(alloc: Global, addressed: bool, texts: &[&[u8]]) -> Result<Lines, AllocError>
     ensures lines { IfOk result
-        (λ read. read.lines.items ≡ map (λ t. (line_of t.now).0) texts.now) }
+        (λ read. read.lines.items ≡ map (λ t. (line_of addressed t.now).0) texts.now) }
     ensures bytes { IfOk result
-        (λ read. read.bytes.items ≡ flat_map (λ t. (line_of t.now).1) texts.now) }
+        (λ read. read.bytes.items ≡ flat_map (λ t. (line_of addressed t.now).1) texts.now) }
     ensures counted { IfOk result
         (λ read. sum_by count_in read.lines.items ≡ length read.bytes.items) }
 {
     let mut lines = Vec::new(alloc);
     let mut bytes = Vec::new(alloc);
     for text in texts {
-        let read = read_line(alloc, text)?;
+        let read = read_line(alloc, addressed, text)?;
         bytes.extend_from_slice(&read.bytes)?;
         lines.push(read.line)?;
     }
@@ -69,7 +84,7 @@ pub(crate) fn count_in(line: Line) -> usize
 {
     match line {
         Line::Bytes(count) | Line::Dump(_, count) => count,
-        Line::Empty | Line::Other => 0,
+        Line::Empty | Line::LeftOut | Line::Other => 0,
     }
 }
 
@@ -97,7 +112,7 @@ fn ends(begun: Option<Begun>, place: usize, line: Line) -> bool
     match line {
         Line::Bytes(_) => false,
         Line::Dump(offset, _) => !continues(begun, place, offset),
-        Line::Empty | Line::Other => true,
+        Line::Empty | Line::LeftOut | Line::Other => true,
     }
 }
 
@@ -109,6 +124,7 @@ fn refusal_of(dumps: bool, begun: Option<Begun>, place: usize, line: Line) -> Op
         Line::Dump(0, _) | Line::Bytes(_) | Line::Empty => None,
         Line::Dump(offset, _) if continues(begun, place, offset) => None,
         Line::Dump(_, _) => Some(Refusal::Gap),
+        Line::LeftOut => Some(Refusal::LeftOut),
         Line::Other if dumps => None,
         Line::Other => Some(Refusal::NotHex),
     }
@@ -126,7 +142,7 @@ fn begun_after(begun: Option<Begun>, number: usize, place: usize, line: Line) ->
         Line::Bytes(_) => Some(begun.unwrap_or(new)),
         Line::Dump(0, _) => Some(new),
         Line::Dump(offset, _) if continues(begun, place, offset) => begun,
-        Line::Dump(_, _) | Line::Empty | Line::Other => None,
+        Line::Dump(_, _) | Line::Empty | Line::LeftOut | Line::Other => None,
     }
 }
 
@@ -137,15 +153,7 @@ fn close(items: &mut Vec<Item>, begun: Option<Begun>, place: usize) -> Result<()
     let Some(begun) = begun else {
         return Ok(());
     };
-    let packet = Packet {
-        family: None,
-        start: begun.start,
-        end: place,
-    };
-    items.push(Item {
-        place: begun.line,
-        packet: Ok(packet),
-    })?;
+    items.push(bare_item(begun.line, begun.start, place))?;
     Ok(())
 }
 
@@ -195,18 +203,19 @@ fn items_of(alloc: Global, lines: &[Line]) -> Result<Vec<Item>, AllocError>
     Ok(items)
 }
 
-/// The family of a datagram after a cooked header.
-fn family_in(bytes: &[u8], packet: Packet) -> Option<u16>
-    ensures { result ≡ family_in bytes.now packet }
+/// The cooked header at the front of a datagram, as `tcpdump -xx` prints it.
+fn cooked_in(bytes: &[u8], packet: Packet) -> Option<Cooked>
+    ensures value { result ≡ cooked_in bytes.now packet }
+    ensures within { IfSome result (λ cooked. packet.start + cooked.size ≤ length bytes.now) }
 {
     if packet.start <= packet.end && packet.end <= bytes.len() {
-        cooked_family(&bytes[packet.start..packet.end])
+        cooked_by_first(&bytes[packet.start..packet.end])
     } else {
         None
     }
 }
 
-/// An item without the cooked header that may stand before its datagram, as `tcpdump -xx` prints it.
+/// An item without the cooked header that may stand before its datagram.
 fn uncooked(bytes: &[u8], item: Item) -> Item
     requires { length bytes.now < 2 ^ 63 }
     ensures { result ≡ uncooked bytes.now item }
@@ -214,14 +223,17 @@ fn uncooked(bytes: &[u8], item: Item) -> Item
     let Ok(packet) = item.packet else {
         return item;
     };
-    let Some(family) = family_in(bytes, packet) else {
+    let Some(cooked) = cooked_in(bytes, packet) else {
         return item;
     };
     Item {
         place: item.place,
         packet: Ok(Packet {
-            family: Some(family),
-            start: packet.start + COOKED_HEADER,
+            family: Some(cooked.family),
+            kind: Some(cooked.kind),
+            time: packet.time,
+            interface: packet.interface,
+            start: packet.start + cooked.size,
             end: packet.end,
         }),
     }
@@ -246,7 +258,8 @@ pub fn read_text(alloc: Global, text: &[u8]) -> Result<Input, AllocError>
     ensures { IfOk result (λ read. IsText text.now read.bytes.items read.items.items) }
 {
     let lines = lines_of(alloc, text)?;
-    let read = read_lines(alloc, &lines)?;
+    let addressed = is_addressed(alloc, &lines)?;
+    let read = read_lines(alloc, addressed, &lines)?;
     let cooked = items_of(alloc, &read.lines)?;
     let items = without_headers(alloc, &read.bytes, &cooked)?;
     let bytes = read.bytes;

@@ -55,6 +55,13 @@ refusal-plain (refusal.RecordBytes count) =
     around-plain count (codes "the input ends after ") (codes " bytes of a record") refl refl
 refusal-plain (refusal.Snapped length) =
     around-plain length (codes "a packet cut short from ") (codes " bytes") refl refl
+refusal-plain refusal.ByteOrder = refl
+refusal-plain (refusal.BlockSize size) =
+    around-plain size (codes "a block that states ") (codes " bytes") refl refl
+refusal-plain (refusal.NoInterface number) =
+    around-plain number (codes "a packet of interface ") (codes ", which is not described") refl refl
+refusal-plain (refusal.PacketSize size) =
+    around-plain size (codes "a packet that states ") (codes " bytes, more than there are") refl refl
 refusal-plain refusal.NotNetlink = refl
 refusal-plain refusal.Gap = refl
 refusal-plain refusal.NotHex = refl

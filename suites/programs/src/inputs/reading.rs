@@ -28,6 +28,25 @@ pub fn listed(rt: &impl Abort, alloc: Global, input: &Input) -> String {
     text
 }
 
+/// What is recorded of the items of an input, a line each: the place, and of a datagram the kind, the time and the
+/// interface.
+pub fn recorded(rt: &impl Abort, alloc: Global, input: &Input) -> String {
+    let mut text = String::new(alloc);
+    for item in &input.items {
+        let place = item.place;
+        let line = match item.packet {
+            Ok(packet) => {
+                let (kind, time, interface) = (packet.kind, packet.time, packet.interface);
+                format!(in alloc; "{place} {kind:?} {time:?} {interface:?}\n")
+            }
+            Err(_) => format!(in alloc; "{place}\n"),
+        };
+        text.push_str(&line.expect(rt, "memory"))
+            .expect(rt, "memory");
+    }
+    text
+}
+
 /// Asserts that this is the expected value, in the row of a table that has this name.
 pub fn assert_is_at<T: Copy + PartialEq + Debug>(rt: &impl Abort, row: &str, got: T, want: T) {
     assert_eq!(rt; got, want, "at {row}");

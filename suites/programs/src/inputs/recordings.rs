@@ -1,0 +1,199 @@
+//! Recordings: pcapng files, and pcap files of any interface of Linux.
+//!
+//! The first row is what `editcap -F pcapng` makes of a pcap file; the others were packed field by field by
+//! draft-ietf-opsawg-pcapng and the pages of LINKTYPE_LINUX_SLL and LINKTYPE_LINUX_SLL2. `tshark` 4.0 reads the same
+//! times in those that it accepts.
+
+use super::reading::{assert_is_at, listed, recorded};
+use neli_inputs::pcapng::{is_pcapng, read_pcapng};
+use neli_inputs::{Input, read_input};
+use std::alloc::AllocError;
+use std::test::Fail;
+
+/// The name of a file, its bytes in hexadecimal, its items, and what is recorded of each.
+const ROWS: [(&str, &str, &str, &str); 14] = [
+    (
+        "of editcap",
+        "0a0d0d0a6c0000004d3c2b1a01000000ffffffffffffffff0400450045646974636170202857697265736861\
+             726b2920342e302e313720284769742076342e302e3137207061636b6167656420617320342e302e31372d30\
+             2b6465623132753329000000000000006c0000000100000014000000fd000000ffff00001400000006000000\
+             4400000000000000240a060005401e1824000000240000000004033800000000000000000000000014000000\
+             64000500e9030000000000000000000044000000060000005800000000000000240a060007401e1838000000\
+             38000000000403380000000000000000000000002800000002000000e90300002b310000eaffffff14000000\
+             64000500e9030000000000000000000058000000",
+        "128 Some(0) 1400000064000500e90300000000000000000000\n\
+             196 Some(0) 2800000002000000e90300002b310000eaffffff1400000064000500e90300000000000000000000\n",
+        "128 Some(4) Some(1700000000000005000) Some(0)\n\
+             196 Some(4) Some(1700000000000007000) Some(0)\n",
+    ),
+    (
+        "the high byte first, of two interfaces",
+        "0a0d0d0a0000001c1a2b3c4d00010000ffffffffffffffff0000001c000000010000002c00fd00000000ffff\
+             000200066e6c6d6f6e3000000009000109000000000000000000002c0000000100000014007100000000ffff\
+             0000001400000006000000440000000017979cfe362a00050000002400000024000403380000000000000000\
+             000000101400000064000500e903000000000000000000000000004400000006000000580000000100060a24\
+             181e40070000003800000038000403380000000000000000000000002800000002000000e90300002b310000\
+             eaffffff1400000064000500e9030000000000000000000000000058",
+        "92 Some(16) 1400000064000500e90300000000000000000000\n\
+             160 Some(0) 2800000002000000e90300002b310000eaffffff1400000064000500e90300000000000000000000\n",
+        "92 Some(4) Some(1700000000000000005) Some(0)\n\
+             160 Some(4) Some(1700000000000007000) Some(1)\n",
+    ),
+    (
+        "two sections in two orders",
+        "0a0d0d0a1c0000004d3c2b1a01000000ffffffffffffffff1c0000000100000014000000fd000000ffff0000\
+             14000000060000004400000000000000240a060005401e182400000024000000000403380000000000000000\
+             000000001400000064000500e90300000000000000000000440000000a0d0d0a0000001c1a2b3c4d00010000\
+             ffffffffffffffff0000001c000000010000001400fd00000000ffff00000014000000060000005800000000\
+             00060a24181e40070000003800000038000403380000000000000000000000102800000002000000e9030000\
+             2b310000eaffffff1400000064000500e9030000000000000000000000000058",
+        "48 Some(0) 1400000064000500e90300000000000000000000\n\
+             164 Some(16) 2800000002000000e90300002b310000eaffffff1400000064000500e90300000000000000000000\n",
+        "48 Some(4) Some(1700000000000005000) Some(0)\n\
+             164 Some(4) Some(1700000000000007000) Some(0)\n",
+    ),
+    (
+        "simple packets, one cut short",
+        "0a0d0d0a1c0000004d3c2b1a01000000ffffffffffffffff1c0000000100000014000000fd00000028000000\
+             14000000030000003400000024000000000403380000000000000000000000001400000064000500e9030000\
+             0000000000000000340000000300000038000000380000000004033800000000000000000000000028000000\
+             02000000e90300002b310000eaffffff1400000038000000",
+        "48 Some(0) 1400000064000500e90300000000000000000000\n\
+             100 a packet cut short from 56 bytes\n",
+        "48 Some(4) None Some(0)\n\
+             100\n",
+    ),
+    (
+        "an old packet, a block of another kind",
+        "0a0d0d0a1c0000004d3c2b1a01000000ffffffffffffffff1c0000000100000014000000fd000000ffff0000\
+             14000000050000001800000000000000000000000000000018000000020000004400000000000000240a0600\
+             05401e182400000024000000000403380000000000000000000000001400000064000500e903000000000000\
+             0000000044000000",
+        "72 Some(0) 1400000064000500e90300000000000000000000\n",
+        "72 Some(4) Some(1700000000000005000) Some(0)\n",
+    ),
+    (
+        "times in powers of two",
+        "0a0d0d0a1c0000004d3c2b1a01000000ffffffffffffffff1c0000000100000020000000fd000000ffff0000\
+             090001008a0000000000000020000000060000004400000000000000950100000002c44f2400000024000000\
+             000403380000000000000000000000001400000064000500e9030000000000000000000044000000",
+        "60 Some(0) 1400000064000500e90300000000000000000000\n",
+        "60 Some(4) Some(1700000000500000000) Some(0)\n",
+    ),
+    (
+        "cut short, of another link, of no interface, longer than its block",
+        "0a0d0d0a1c0000004d3c2b1a01000000ffffffffffffffff1c0000000100000014000000fd000000ffff0000\
+             14000000010000001400000001000000ffff0000140000000600000040000000000000000000000000000000\
+             2000000024000000000403380000000000000000000000001400000064000500e90300000000000040000000\
+             0600000044000000010000000000000000000000240000002400000000000000000000000000000000000000\
+             0000000000000000000000000000000000000000440000000600000044000000020000000000000000000000\
+             2400000024000000000403380000000000000000000000001400000064000500e90300000000000000000000\
+             4400000006000000440000000000000000000000000000002800000024000000000403380000000000000000\
+             000000001400000064000500e9030000000000000000000044000000",
+        "68 a packet cut short from 36 bytes\n\
+             132 a packet that is not of netlink\n\
+             200 a packet of interface 2, which is not described\n\
+             268 a packet that states 40 bytes, more than there are\n",
+        "68\n\
+             132\n\
+             200\n\
+             268\n",
+    ),
+    (
+        "ends inside a block",
+        "0a0d0d0a1c0000004d3c2b1a01000000ffffffffffffffff1c0000000100000014000000fd000000ffff0000\
+             14000000060000004400000000000000240a060005401e182400000024000000000403380000000000000000\
+             000000001400000064000500e903000000000000",
+        "48 the input ends after 60 bytes of a record\n",
+        "48\n",
+    ),
+    (
+        "ends inside the header of a block",
+        "0a0d0d0a1c0000004d3c2b1a01000000ffffffffffffffff1c0000000100000014000000fd000000ffff0000\
+             1400000006000000",
+        "48 the input ends inside a record's header\n",
+        "48\n",
+    ),
+    (
+        "a size that is not possible",
+        "0a0d0d0a1c0000004d3c2b1a01000000ffffffffffffffff1c00000001000000100000000000000010000000",
+        "28 a block that states 16 bytes\n",
+        "28\n",
+    ),
+    (
+        "another size at the end",
+        "0a0d0d0a1c0000004d3c2b1a01000000ffffffffffffffff1c0000000100000014000000fd000000ffff0000\
+             18000000",
+        "28 a block that states 20 bytes\n",
+        "28\n",
+    ),
+    (
+        "a later section without an order",
+        "0a0d0d0a1c0000004d3c2b1a01000000ffffffffffffffff1c0000000100000014000000fd000000ffff0000\
+             140000000a0d0d0a1c0000000000000001000000ffffffffffffffff1c000000",
+        "48 a section without the order of its bytes\n",
+        "48\n",
+    ),
+    (
+        "pcap of any interface",
+        "d4c3b2a1020004000000000000000000ffff00007100000000f1536505000000240000002400000000040338\
+             0000000000000000000000001400000064000500e9030000000000000000000000f153650700000038000000\
+             38000000000000010000000000000000000000102800000002000000e90300002b310000eaffffff14000000\
+             64000500e90300000000000000000000",
+        "24 Some(0) 1400000064000500e90300000000000000000000\n\
+             76 a packet that is not of netlink\n",
+        "24 Some(4) Some(1700000000000005000) None\n\
+             76\n",
+    ),
+    (
+        "pcap of any interface, version 2",
+        "4d3cb2a1020004000000000000000000ffff00001401000000f1536505000000280000002800000000000000\
+             000000030338040000000000000000001400000064000500e9030000000000000000000000f1536507000000\
+             3c0000003c00000000100000000000030338040000000000000000002800000002000000e90300002b310000\
+             eaffffff1400000064000500e90300000000000000000000",
+        "24 Some(0) 1400000064000500e90300000000000000000000\n\
+             80 Some(16) 2800000002000000e90300002b310000eaffffff1400000064000500e90300000000000000000000\n",
+        "24 Some(4) Some(1700000000000000005) None\n\
+             80 Some(4) Some(1700000000000000007) None\n",
+    ),
+];
+
+#[test]
+fn recordings_are_cut(rt: HostRuntime) -> Result<(), Fail> {
+    let alloc = rt.alloc();
+    for (what, digits, wanted, stated) in ROWS {
+        let input = read_input(alloc, hex::decode(alloc, digits)?)?;
+        assert_is_at(&rt, what, listed(&rt, alloc, &input).as_str(), wanted);
+        assert_is_at(&rt, what, recorded(&rt, alloc, &input).as_str(), stated);
+    }
+    Ok(())
+}
+
+#[test]
+fn pcapng_is_read_alone(rt: HostRuntime) -> Result<(), Fail> {
+    let alloc = rt.alloc();
+    for (what, digits, wanted, _) in ROWS {
+        let bytes = hex::decode(alloc, digits)?;
+        assert_is_at(&rt, what, is_pcapng(&bytes), !what.starts_with("pcap of"));
+        if !is_pcapng(&bytes) {
+            continue;
+        }
+        let items = read_pcapng(alloc, &bytes)?;
+        let input = Input { bytes, items };
+        assert_is_at(&rt, what, listed(&rt, alloc, &input).as_str(), wanted);
+    }
+    Ok(())
+}
+
+#[test]
+fn a_recording_is_read_or_out_of_memory(rt: HostRuntime) {
+    let alloc = rt.alloc();
+    let (_, digits, wanted, _) = ROWS[1];
+    let Ok(bytes) = hex::decode(alloc, digits) else {
+        return;
+    };
+    match read_pcapng(alloc, &bytes) {
+        Ok(items) => assert_is_at(&rt, wanted, items.len(), 2),
+        Err(error) => assert_is_at(&rt, wanted, error, AllocError),
+    }
+}
