@@ -71,12 +71,11 @@ static void read_lent(const struct list *list, struct counts *counts) {
 
 /* Waits for a datagram, and hands it in. */
 static void hand_in(struct link *link, struct neli_router *router) {
-    size_t length;
-    uint32_t group;
+    struct neli_received received;
     int32_t code;
-    while ((code = link_receive(link, &length, &group)) == NELI_WAITS)
+    while ((code = link_receive(link, &received)) == NELI_WAITS)
         if (link_wait(link, link_end_of_wait(link)) != NELI_OK) fail("the wait has ended");
-    if (code != NELI_OK || neli_router_datagram(router, link->room, length, NULL, 0) != NELI_OK)
+    if (code != NELI_OK || neli_router_datagram(router, link->room, received.length, NULL, 0) != NELI_OK)
         fail("nothing is received");
 }
 
