@@ -4,6 +4,8 @@ use neli::consts::nl::{NlmF, Nlmsg, NlmsgerrAttr};
 use neli::consts::rtnl::Rtm;
 use neli::err::{DeError, Refusal, SerError, SocketError};
 use neli::genl::{AttrTypeBuilder, NlattrBuilder};
+use neli::nl::NlPayload;
+use neli::router::synchronous::{Lists, NlRouter};
 use neli::simulator::{Datagram, Kernel, Request, notification, requests};
 use neli::types::{Buffer, GenlBuffer};
 
@@ -79,6 +81,37 @@ fn a_dump_is_cut_into_datagrams() {
     let datagrams = dump.finish(NlmF::DUMP_FILTERED, -19, &()).expect("room");
     let (one, two) = (message(16, 2, &[&1u32.to_ne_bytes()]), message(16, 0x10, &[&2u32.to_ne_bytes()]));
     assert_eq!(datagrams, [one, [two, message(3, 0x22, &[&(-19i32).to_ne_bytes()])].concat()]);
+}
+
+/// Lists of a state are requested again all together, as often as they may, unless that can't help.
+#[test]
+fn lists_of_a_state_are_requested_again_together() {
+    let mut marked = 2;
+    let kernel = Kernel::new(7, move |request: &Request<'_>| {
+        let kind: u16 = request.nl_type();
+        if kind == 26 {
+            return Ok(vec![request.capped_error(-95, &())?]);
+        }
+        let is_marked = kind == 22 && marked > 0;
+        marked -= u32::from(is_marked);
+        let mut dump = request.dump(8192)?;
+        dump.push(kind - 2, if is_marked { NlmF::DUMP_INTR } else { NlmF::empty() }, &7u32)?;
+        dump.finish(NlmF::empty(), 0, &())
+    });
+    let (_router, mut multicast) = NlRouter::over(kernel).expect("a router");
+    let mut count = 0;
+    let mut state = |times, kinds: [u16; 2]| {
+        multicast.resync_all(times, |lists: &Lists<'_>| {
+            count += 1;
+            let list = |kind| lists.dump::<u16, Buffer, u16, Buffer>(kind, NlPayload::Empty);
+            Ok([list(kinds[0])?.len(), list(kinds[1])?.len()])
+        })
+    };
+    let error = state(2, [18, 22]).expect_err("the second list is interrupted twice");
+    assert_eq!(error.to_string(), "what was listed changed meanwhile");
+    assert_eq!(state(2, [18, 22]).expect("it is no more"), [1, 1]);
+    assert_eq!(state(5, [18, 26]).expect_err("it is refused each time").errno(), Some(95));
+    assert_eq!(count, 4);
 }
 
 #[test]

@@ -18,6 +18,7 @@ use crate::socket::synchronous::{NlSocketHandle, is_stop};
 use crate::types::Buffer;
 use crate::utils::{Groups, NetlinkBitArray};
 use crate::{FromBytes, ToBytes};
+use std::cell::Cell;
 use std::marker::PhantomData;
 use std::os::fd::{AsFd, BorrowedFd};
 use std::sync::Arc;
@@ -231,7 +232,14 @@ impl<L: Link + 'static> NlRouter<L> {
         times: usize,
     ) -> Result<Dump<RT, RP>, RouterError> {
         let (kind, body) = (nl_type.into(), nl_payload.body()?);
-        repeated(times, || dump_once(&self.shared, kind, nl_flags, &body))
+        let mut dump = dump_once(&self.shared, kind, nl_flags, &body)?;
+        for _ in 1..times {
+            if !dump.is_passing() {
+                break;
+            }
+            dump = dump_once(&self.shared, kind, nl_flags, &body)?;
+        }
+        Ok(dump)
     }
 
     /// The handle of messages that the kernel sends to the socket's own port without a request, as the packets of a
@@ -379,31 +387,79 @@ impl<T, P> NlRouterReceiverHandle<T, P> {
         nl_payload: NlPayload<ST, SP>,
         times: usize,
     ) -> Result<Vec<Nlmsghdr<RT, RP>>, RouterError> {
+        let (kind, body) = (nl_type.into(), nl_payload.body()?);
+        self.resync_all(times, |lists| lists.whole(kind, &body))
+    }
+
+    /// Requests the whole state after a loss of multicast, where it has several lists, as those of links, addresses and
+    /// routes: messages for groups from before are dropped, and then `lists` requests each list, and returns what the
+    /// program makes of them. As long as a list may be complete when it is requested again, all of this is done again,
+    /// at most so many times. One [`resync`](NlRouterReceiverHandle::resync) for each would drop the notifications of
+    /// the lists before it.
+    ///
+    /// Refused as `lists` refuses at last, as `ClosedChannel` if the handle is not that of multicast, and as `Socket` if
+    /// the link is gone.
+    ///
+    /// ```no_run
+    /// # use neli::consts::rtnl::Rtm;
+    /// # use neli::err::RouterError;
+    /// # use neli::nl::{NlPayload, Nlmsghdr};
+    /// # use neli::router::synchronous::NlRouterReceiverHandle;
+    /// # use neli::rtnl::{Ifaddrmsg, Ifinfomsg};
+    /// # use neli::types::Buffer;
+    /// type List<P> = Vec<Nlmsghdr<Rtm, P>>;
+    ///
+    /// fn state(
+    ///     multicast: &mut NlRouterReceiverHandle<u16, Buffer>,
+    /// ) -> Result<(List<Ifinfomsg>, List<Ifaddrmsg>), RouterError> {
+    ///     let all = || NlPayload::<Rtm, Buffer>::Empty;
+    ///     multicast.resync_all(5, |lists| Ok((lists.dump(Rtm::Getlink, all())?, lists.dump(Rtm::Getaddr, all())?)))
+    /// }
+    /// ```
+    pub fn resync_all<R>(
+        &mut self,
+        times: usize,
+        mut lists: impl FnMut(&Lists<'_>) -> Result<R, RouterError>,
+    ) -> Result<R, RouterError> {
         if self.reader != Reader::Multicast {
             return Err(RouterError::ClosedChannel);
         }
-        let (kind, body) = (nl_type.into(), nl_payload.body()?);
-        let dump = repeated(times, || {
+        let mut left = times.max(1);
+        loop {
             self.shared.receive_all(|state| state.pass_all(Reader::Multicast))?;
-            dump_once(&self.shared, kind, NlmF::empty(), &body)
-        })?;
-        if dump.verdict == Verdict::Complete { Ok(dump.messages) } else { Err(dump.into_error()) }
+            let requested = Lists { shared: &self.shared, is_passing: Cell::new(false) };
+            let made = lists(&requested);
+            left -= 1;
+            if made.is_ok() || left == 0 || !requested.is_passing.get() {
+                return made;
+            }
+        }
     }
 }
 
-/// Requests a dump, and again as long as that may help, at most so many times.
-fn repeated<T, P>(
-    times: usize,
-    mut once: impl FnMut() -> Result<Dump<T, P>, RouterError>,
-) -> Result<Dump<T, P>, RouterError> {
-    let mut dump = once()?;
-    for _ in 1..times {
-        if !dump.is_passing() {
-            break;
-        }
-        dump = once()?;
+/// The lists of a state, which [`resync_all`](NlRouterReceiverHandle::resync_all) requests.
+#[derive(Debug)]
+pub struct Lists<'s> {
+    shared: &'s Arc<Shared>,
+    is_passing: Cell<bool>,
+}
+
+impl Lists<'_> {
+    /// Requests a list once: its messages, in order, without the end. Refused if it is not complete, and as
+    /// [`NlRouter::dump`] is.
+    pub fn dump<ST: NlType, SP: ToBytes, RT: NlType, RP: FromBytes>(
+        &self,
+        nl_type: ST,
+        nl_payload: NlPayload<ST, SP>,
+    ) -> Result<Vec<Nlmsghdr<RT, RP>>, RouterError> {
+        self.whole(nl_type.into(), &nl_payload.body()?)
     }
-    Ok(dump)
+
+    fn whole<RT: NlType, RP: FromBytes>(&self, kind: u16, body: &[u8]) -> Result<Vec<Nlmsghdr<RT, RP>>, RouterError> {
+        let dump = dump_once(self.shared, kind, NlmF::empty(), body)?;
+        self.is_passing.set(dump.is_passing());
+        if dump.verdict == Verdict::Complete { Ok(dump.messages) } else { Err(dump.into_error()) }
+    }
 }
 
 /// Requests a dump once, and reads it to its end. Refused if the wait ends or memory runs out, since it has not ended

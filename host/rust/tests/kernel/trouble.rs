@@ -4,9 +4,9 @@
 use crate::links::{LINK_GROUP, Links, ask, dump, link, make_pairs, name, named, names, router, set_loopback};
 use crate::space::alone;
 use neli::consts::nl::{NlmF, Nlmsg};
-use neli::consts::rtnl::{Ifa, Ifla, RtAddrFamily, RtScope, Rtm};
+use neli::consts::rtnl::{Ifa, Iff, Ifla, RtAddrFamily, RtScope, Rtm};
 use neli::err::{RouterError, SocketError};
-use neli::nl::{NlPayload, NlmsghdrBuilder};
+use neli::nl::{NlPayload, Nlmsghdr, NlmsghdrBuilder};
 use neli::router::synchronous::{NlRouter, NlRouterReceiverHandle, Verdict};
 use neli::rtnl::{Ifaddrmsg, IfaddrmsgBuilder, Ifinfomsg, RtattrBuilder};
 use neli::types::Buffer;
@@ -303,6 +303,34 @@ fn a_picture_is_right_after_a_storm() {
             .into_iter()
             .zip([0, 100, 200, 300])
             .for_each(|(it, first)| want_right_picture(it, first));
+    });
+}
+
+#[test]
+fn what_comes_between_two_lists_is_heard() {
+    alone(|| {
+        let (other, _) = router(&[]);
+        let (router, mut multicast) = router(&[LINK_GROUP]);
+        wait_shortly(&router);
+        let all = || NlPayload::<Rtm, Buffer>::Empty;
+        set_loopback(&other, true);
+        let (links, addresses) = multicast
+            .resync_all(3, |lists| {
+                let links: Vec<Nlmsghdr<Rtm, Ifinfomsg>> = lists.dump(Rtm::Getlink, all())?;
+                set_loopback(&other, false);
+                let addresses: Vec<Nlmsghdr<Rtm, Ifaddrmsg>> = lists.dump(Rtm::Getaddr, all())?;
+                Ok((links, addresses))
+            })
+            .expect("both lists are whole");
+        let is_up = |it: &Ifinfomsg| it.ifi_flags().contains(Iff::UP);
+        assert!(links.iter().filter_map(|it| it.get_payload()).any(|it| *it.ifi_index() == 1 && is_up(it)));
+        assert!(addresses.iter().all(|it| it.get_payload().is_some()));
+        let news = multicast.next_typed::<Rtm, Ifinfomsg>().expect("it goes on").expect("no error");
+        assert!(
+            news.get_payload().is_some_and(|it| !is_up(it)),
+            "what was before is dropped, and what came after is not"
+        );
+        assert!(multicast.next().is_some_and(|it| it.is_err_and(|it| is_late(&it))));
     });
 }
 
