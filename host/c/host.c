@@ -1,6 +1,7 @@
 #include "host.h"
 #include <linux/netlink.h>
 #include <stdlib.h>
+#include <string.h>
 
 /* The number of consecutive faults, without end, that mean a closed socket. */
 #define FAULTS 8
@@ -46,11 +47,14 @@ static void flush(struct neli_host *host) {
     }
 }
 
-/* Writes a message behind those before it, with its padding. */
-static int32_t write_message(uint8_t *out, size_t room, struct neli_writer *writer, const struct neli_message *head,
-                             const void *body, size_t length) {
-    int32_t code = neli_begin_message(out, room, writer, head->type, head->flags, head->number, head->port);
-    if (code == NELI_OK) code = neli_put_bytes(out, room, writer, body, length);
+/* Writes a request behind those before it, with a number of its own. */
+static int32_t write_request(struct neli_host *host, const struct neli_host_request *request, uint8_t *out, size_t room,
+                             struct neli_writer *writer, uint32_t *number) {
+    uint16_t flags = request->flags | NLM_F_REQUEST;
+    int32_t code = neli_session_take_number(&host->session, number);
+    if (code == NELI_OK)
+        code = neli_begin_message(out, room, writer, request->type, flags, *number, host->link.port);
+    if (code == NELI_OK) code = neli_put_bytes(out, room, writer, request->body, request->length);
     return code == NELI_OK ? neli_end_message(out, room, writer) : code;
 }
 
@@ -66,11 +70,9 @@ static int32_t queue(struct neli_host *host, const struct neli_host_request *req
     uint8_t *out = malloc(room);
     int32_t code = out != NULL ? NELI_OK : NELI_MEMORY;
     for (size_t i = 0; i < count && code == NELI_OK; i++) {
-        const struct neli_host_request *it = &requests[i];
-        struct neli_message head = {.type = it->type, .flags = it->flags | NLM_F_REQUEST, .port = host->link.port};
-        code = neli_session_take_number(&host->session, &head.number);
-        if (code == NELI_OK) code = write_message(out, room, &writer, &head, it->body, it->length);
-        handles[i] = handle_of(head.number);
+        uint32_t number = 0;
+        code = write_request(host, &requests[i], out, room, &writer, &number);
+        handles[i] = handle_of(number);
     }
     if (code == NELI_OK) code = neli_session_send_all(&host->session, out, writer.end);
     free(out);
@@ -181,19 +183,24 @@ static int32_t lend(struct neli_host *host, size_t handle, struct neli_lent *len
 
 /* Copies an item, with its padding. */
 static int32_t copy(struct neli_host *host, const struct neli_lent *lent, struct neli_message *message) {
-    struct neli_writer writer = {0};
     size_t length = message_length(lent->length);
+    struct nlmsghdr header = {(uint32_t)length, lent->message.type, lent->message.flags, lent->message.number,
+                              lent->message.port};
     if (length > host->item_room) {
         uint8_t *grown = realloc(host->item, length);
         if (grown == NULL) return NELI_MEMORY;
         host->item = grown;
         host->item_room = length;
     }
+    memset(host->item + length - 4, 0, 4);
+    memcpy(host->item, &header, sizeof header);
+    memcpy(host->item + sizeof header, lent->bytes, lent->length);
     host->item_length = length;
-    int32_t code = write_message(host->item, length, &writer, &lent->message, lent->bytes, lent->length);
-    struct neli_walk walk = {0, writer.end};
-    if (code == NELI_OK) neli_next_message(host->item, length, &walk, message);
-    return code;
+    *message = lent->message;
+    message->length = header.nlmsg_len;
+    message->payload = sizeof header;
+    message->payload_length = length - sizeof header;
+    return NELI_OK;
 }
 
 int32_t neli_host_next(struct neli_host *host, size_t handle, struct neli_message *message) {
