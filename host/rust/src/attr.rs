@@ -2,6 +2,7 @@
 
 use crate::err::{BuildError, DeError, SerError, UninitializedFieldError, done, refused};
 use crate::ffi;
+use crate::payload::Payload;
 use crate::types::Buffer;
 use crate::{FromBytes, ToBytes};
 use std::marker::PhantomData;
@@ -54,6 +55,13 @@ fn put(out: &mut Vec<u8>, field: u16, payload: &[u8]) -> Result<(), SerError> {
     let written = done(ffi::put_attribute(out, &mut writer, field, payload));
     out.truncate(writer.end);
     Ok(written?)
+}
+
+/// A payload with one more attribute behind it.
+fn with(payload: &[u8], field: u16, more: &[u8]) -> Result<Payload, SerError> {
+    let mut bytes = payload.to_vec();
+    put(&mut bytes, field, more)?;
+    Ok(bytes.as_slice().into())
 }
 
 /// A list of attributes.
@@ -223,7 +231,7 @@ fn handle_in<'a, A: Attribute>(payload: &[u8]) -> Result<AttrHandle<'a, A>, DeEr
 pub struct Rtattr<T, P = Buffer> {
     rta_type: T,
     flags: u16,
-    payload: Vec<u8>,
+    payload: Payload,
     of: PhantomData<P>,
 }
 
@@ -231,7 +239,7 @@ impl<T: AttrNumber> Attribute for Rtattr<T> {
     type Number = T;
 
     fn of_field(field: u16, payload: &[u8]) -> Self {
-        Rtattr { rta_type: T::from(field & !FLAGS), flags: field & FLAGS, payload: payload.to_vec(), of: PhantomData }
+        Rtattr { rta_type: T::from(field & !FLAGS), flags: field & FLAGS, payload: payload.into(), of: PhantomData }
     }
 
     fn field(&self) -> u16 {
@@ -267,7 +275,7 @@ impl<T: AttrNumber> Rtattr<T> {
     /// The attribute, marked as nested, with another one appended to its payload. Refused as [`SerError::Refused`] if
     /// the payload of that one has more than 65531 bytes.
     pub fn nest<S: AttrNumber>(mut self, attribute: &Rtattr<S>) -> Result<Self, SerError> {
-        put(&mut self.payload, attribute.field(), attribute.payload())?;
+        self.payload = with(&self.payload, attribute.field(), attribute.payload())?;
         self.flags |= NESTED;
         Ok(self)
     }
@@ -347,7 +355,7 @@ impl<T> AttrTypeBuilder<T> {
 #[derive(Clone, Debug, PartialEq, Eq)]
 pub struct Nlattr<T, P = Buffer> {
     nla_type: AttrType<T>,
-    payload: Vec<u8>,
+    payload: Payload,
     of: PhantomData<P>,
 }
 
@@ -360,7 +368,7 @@ impl<T: AttrNumber> Attribute for Nlattr<T> {
             nla_network_order: field & NETWORK_ORDER != 0,
             nla_type: T::from(field & !FLAGS),
         };
-        Nlattr { nla_type, payload: payload.to_vec(), of: PhantomData }
+        Nlattr { nla_type, payload: payload.into(), of: PhantomData }
     }
 
     fn field(&self) -> u16 {
@@ -387,7 +395,7 @@ impl<T: AttrNumber> Nlattr<T> {
     /// The attribute, marked as nested, with another one appended to its payload. Refused as [`SerError::Refused`] if
     /// the payload of that one has more than 65531 bytes.
     pub fn nest<S: AttrNumber>(mut self, attribute: &Nlattr<S>) -> Result<Self, SerError> {
-        put(&mut self.payload, attribute.field(), attribute.payload())?;
+        self.payload = with(&self.payload, attribute.field(), attribute.payload())?;
         self.nla_type.nla_nested = true;
         Ok(self)
     }
@@ -476,8 +484,8 @@ impl<T: AttrNumber, P: ToBytes> NlattrBuilder<T, P> {
     }
 }
 
-fn bytes_of(payload: &impl ToBytes) -> Result<Vec<u8>, SerError> {
+fn bytes_of(payload: &impl ToBytes) -> Result<Payload, SerError> {
     let mut bytes = Vec::new();
     payload.to_bytes(&mut bytes)?;
-    Ok(bytes)
+    Ok(bytes.as_slice().into())
 }

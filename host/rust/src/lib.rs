@@ -40,6 +40,7 @@ pub mod genl;
 pub mod lent;
 pub mod link;
 pub mod nl;
+mod payload;
 pub mod recording;
 pub mod router;
 pub mod rtnl;
