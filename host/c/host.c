@@ -30,7 +30,9 @@ static enum neli_reader reader_of(size_t handle) {
 /* The next item of a handle, as neli_session_next. */
 static int32_t look(struct neli_host *host, size_t handle, struct neli_lent *lent) {
     if (handle != NELI_HOST_UNASKED && handle > handle_of(UINT32_MAX)) return NELI_HANDLE;
-    return neli_session_next(&host->session, reader_of(handle), number_of(handle), lent);
+    int32_t code = neli_session_next(&host->session, reader_of(handle), number_of(handle), lent);
+    if (code != NELI_HANDLE) host->open = handle;
+    return code;
 }
 
 /* ---- What goes out ---- */
@@ -90,7 +92,7 @@ int32_t neli_host_send_all(struct neli_host *host, const struct neli_host_reques
     if (code == NELI_OK) flush(host);
     if (code != NELI_OK || look(host, handles[0], &lent) != NELI_LINK) return code;
     /* The system refuses them at once. */
-    for (size_t i = 0; i < count; i++) neli_session_close(&host->session, number_of(handles[i]));
+    for (size_t i = 0; i < count; i++) neli_host_close_request(host, handles[i]);
     host->link.fault = lent.error;
     return NELI_LINK;
 }
@@ -161,7 +163,8 @@ static void pass(struct neli_host *host, size_t handle) {
 static int32_t want_open(struct neli_host *host, size_t handle) {
     struct neli_lent lent;
     if (host == NULL) return NELI_NULL;
-    return handle != NELI_HOST_UNASKED && look(host, handle, &lent) != NELI_HANDLE ? NELI_OK : NELI_HANDLE;
+    if (handle == NELI_HOST_UNASKED) return NELI_HANDLE;
+    return handle == host->open || look(host, handle, &lent) != NELI_HANDLE ? NELI_OK : NELI_HANDLE;
 }
 
 /* Takes in more until an item of the handle is there, or the wait has ended. Once the link was seen empty, which may
@@ -245,6 +248,7 @@ int32_t neli_host_verdict(struct neli_host *host, size_t handle, struct neli_ver
 int32_t neli_host_close_request(struct neli_host *host, size_t handle) {
     int32_t code = want_open(host, handle);
     if (code != NELI_OK) return code;
+    host->open = NELI_HOST_UNASKED;
     if (handle == NELI_MULTICAST) return neli_session_close_multicast(&host->session);
     return neli_session_close(&host->session, number_of(handle));
 }

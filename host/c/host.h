@@ -13,6 +13,7 @@ struct neli_host {
     int due;    /* a fault of the link that is not yet handed in, or 0 */
     int faults; /* how many the link had in a row; `link.fault` is why NELI_LINK */
     bool keeps_unasked;
+    size_t open; /* the handle that was looked at last, if it was open and is not closed since */
     uint8_t *item; /* the item that was read last, a message; its padding is there */
     size_t item_room, item_length;
 };
