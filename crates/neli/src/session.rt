@@ -30,7 +30,7 @@
 pub use neli_session::{Answering, Loss, Next, Reader, SendError, Session, Untaken, Verdict};
 
 /// Laws: what the reads of a request return, whatever happens to it, when the verdict is `Complete`, and what holds after
-/// any calls of a session.
+/// any calls of a session; and with the simulator's kernel.
 pub mod laws {
     pub use neli_session::laws::{
         answers_are_read, complete_answers_are_whole, datagrams_are_happenings,
@@ -38,5 +38,9 @@ pub mod laws {
         one_dump_runs, reads_are_noted, reads_are_the_answer, regrouping_changes_nothing,
         requests_are_followed, sent_numbers_were_free, stages_follow, unasked_are_read,
         whole_answers_are_complete,
+    };
+    pub use neli_session_laws::laws::{
+        datagrams_bring_answers, no_dump_is_refused, requests_are_answered,
+        simulated_answers_are_whole, simulated_requests_are_answered,
     };
 }

@@ -1,0 +1,5 @@
+mod Coming
+mod Judged
+mod Answered
+mod Given
+mod Busy

@@ -1,0 +1,4 @@
+pub mod Served
+pub mod Answered
+pub mod Given
+pub mod Busy
