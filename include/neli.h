@@ -339,6 +339,8 @@ int32_t neli_c_session_receive(struct neli_session *session, const uint8_t *byte
                                uint8_t is_joined, size_t *taken);
 int32_t neli_c_session_fault(struct neli_session *session, int32_t error_number);
 int32_t neli_c_session_quiet(struct neli_session *session);
+int32_t neli_c_session_ready(struct neli_session *session, uint32_t *number);
+int32_t neli_c_session_is_ready(struct neli_session *session, uint32_t reader, uint32_t number);
 int32_t neli_c_session_next(struct neli_session *session, uint32_t reader, uint32_t number, struct neli_lent *lent);
 int32_t neli_c_session_pass(struct neli_session *session, uint32_t reader, uint32_t number);
 int32_t neli_c_session_verdict(struct neli_session *session, uint32_t number, struct neli_verdict *verdict);
@@ -912,6 +914,21 @@ static inline int32_t neli_session_fault(struct neli_session *session, int32_t e
 static inline int32_t neli_session_quiet(struct neli_session *session) {
     if (session == NULL) return NELI_NULL;
     return neli_c_session_quiet(session);
+}
+
+/* Which request has something to read, an item, a loss or the end: NELI_ITEM, and `number` is that of the first in line;
+ * or NELI_WAITS, and `number` is unchanged. A request joins the line at its end when it has something, goes to the end
+ * again when it was read (neli_session_pass) and has more, and leaves when it has nothing or is closed. So a loop that
+ * reads and passes the first, and closes it at the end, reads all in turn. It takes constant time and no memory. */
+static inline int32_t neli_session_ready(struct neli_session *session, uint32_t *number) {
+    if (session == NULL || number == NULL) return NELI_NULL;
+    return neli_c_session_ready(session, number);
+}
+
+/* Whether a reader has something to read: NELI_ITEM, or NELI_WAITS. It takes constant time and no memory. */
+static inline int32_t neli_session_is_ready(struct neli_session *session, enum neli_reader reader, uint32_t number) {
+    if (session == NULL) return NELI_NULL;
+    return neli_c_session_is_ready(session, (uint32_t)reader, number);
 }
 
 /* Lends the next item of a reader, where the session keeps it; `number` is that of a request, and else not read. It

@@ -273,12 +273,44 @@ static void check_refusals(void) {
     CHECK(neli_session_close(session, 0) == NELI_STATE && neli_session_close(none, 0) == NELI_NULL);
     CHECK(neli_session_close_multicast(session) == NELI_STATE && neli_session_close_multicast(none) == NELI_NULL);
     CHECK(neli_session_is_in_use(session, 0) == NELI_STATE && neli_session_is_in_use(none, 0) == NELI_NULL);
+    CHECK(neli_session_ready(session, &number) == NELI_STATE && number == 4711);
+    CHECK(neli_session_ready(none, &number) == NELI_NULL && neli_session_ready(session, NULL) == NELI_NULL);
+    CHECK(neli_session_is_ready(session, NELI_READER_UNASKED, 0) == NELI_STATE);
+    CHECK(neli_session_is_ready(none, NELI_READER_UNASKED, 0) == NELI_NULL);
     CHECK(neli_session_new(none, 0, PORT, false) == NELI_NULL && neli_session_free(none) == NELI_NULL);
     CHECK(neli_session_free(session) == NELI_OK && !closed.is_open);
     /* Without the unasked. */
     CHECK(neli_session_new(session, 0, PORT, false) == NELI_OK && come(session, 16, 0, 0, 0, 2, 0, false) == NELI_OK);
     CHECK(neli_session_next(session, NELI_READER_UNASKED, 0, &lent) == NELI_HANDLE);
     CHECK(neli_session_free(session) == NELI_OK);
+}
+
+/* Who has something to read, in order. */
+static void check_ready(struct neli_session *session) {
+    uint32_t one, two, ready = 4711;
+    struct neli_lent lent;
+    CHECK(neli_session_set_number(session, 40) == NELI_OK);
+    CHECK(neli_session_send(session, 18, 0, NULL, 0, &one) == NELI_OK && request_goes_out(session, 18, 1, 40));
+    CHECK(neli_session_send(session, 26, 0, NULL, 0, &two) == NELI_OK && request_goes_out(session, 26, 1, 41));
+    CHECK(neli_session_ready(session, &ready) == NELI_WAITS && ready == 4711);
+    CHECK(neli_session_is_ready(session, NELI_READER_REQUEST, two) == NELI_WAITS);
+    CHECK(come(session, 24, MULTI, 41, PORT, 1, 0, false) == NELI_OK && neli_session_ready(session, &ready) == NELI_ITEM);
+    CHECK(ready == two && neli_session_is_ready(session, NELI_READER_REQUEST, two) == NELI_ITEM);
+    CHECK(come(session, 16, MULTI, 40, PORT, 1, 0, false) == NELI_OK);
+    CHECK(come(session, 24, MULTI, 41, PORT, 2, 0, false) == NELI_OK);
+    CHECK(neli_session_ready(session, &ready) == NELI_ITEM && ready == two);
+    CHECK(neli_session_pass(session, NELI_READER_REQUEST, two) == NELI_OK);
+    CHECK(neli_session_ready(session, &ready) == NELI_ITEM && ready == one);
+    CHECK(neli_session_next(session, NELI_READER_REQUEST, one, &lent) == NELI_ITEM && lent.message.type == 16);
+    CHECK(neli_session_close(session, one) == NELI_OK && neli_session_ready(session, &ready) == NELI_ITEM);
+    CHECK(ready == two && neli_session_close(session, two) == NELI_OK);
+    CHECK(neli_session_ready(session, &ready) == NELI_WAITS && neli_session_quiet(session) == NELI_OK);
+    CHECK(neli_session_is_ready(session, NELI_READER_MULTICAST, 0) == NELI_WAITS);
+    CHECK(come(session, 16, 0, 0, 0, 1, 1, true) == NELI_OK);
+    CHECK(neli_session_is_ready(session, NELI_READER_MULTICAST, 0) == NELI_ITEM);
+    CHECK(neli_session_pass(session, NELI_READER_MULTICAST, 0) == NELI_OK);
+    CHECK(neli_session_is_ready(session, NELI_READER_UNASKED, 0) == NELI_WAITS);
+    CHECK(neli_session_is_ready(session, (enum neli_reader)3, 0) == NELI_WAITS);
 }
 
 int main(void) {
@@ -289,6 +321,7 @@ int main(void) {
     check_losses(&session);
     check_others(&session);
     check_written(&session);
+    check_ready(&session);
     CHECK(neli_session_free(&session) == NELI_OK && neli_session_free(&session) == NELI_OK);
     CHECK(neli_session_quiet(&session) == NELI_STATE);
     printf("session.c: %s\n", failures == 0 ? "each call answers as include/neli.h says" : "failed");

@@ -7,12 +7,13 @@ ghost use Rattle.std.specs.Borrow.{sem};
 ghost use Rattle.neli_consts_system.specs.NlFamily.{nl_family_of};
 ghost use Rattle.neli_reader.specs.Headers.{flags_of};
 ghost use Rattle.neli_session.specs.Sessions.{at};
-ghost use Rattle.neli_c_parts.specs.Codes.{in_use, memory, ok, state};
+ghost use Rattle.neli_c_parts.specs.Codes.{in_use, item, memory, ok, state, waits};
 ghost use Rattle.neli_c_session.specs.Calls.{Chooses, Closes, ClosesMulticast, FallsQuiet, IsNew, IsSent};
 ghost use Rattle.neli_c_session.specs.Calls.{IsUnsent, Queues, QueuesAs, SendsRequest, SetsNumber, TakesFault, TakesIn, TakesNumber};
 ghost use Rattle.neli_c_session.specs.Calls.{answering_in, is_set};
 ghost use Rattle.neli_c_session.specs.Places.{IsLeft};
-ghost use Rattle.neli_c_session.specs.Reads.{LendsNext, LendsOutgoing, PassesNext, TellsVerdict};
+ghost use Rattle.neli_c_session.specs.Reads.{LendsNext, LendsOutgoing, PassesNext, TellsReady, TellsVerdict, is_ready_of};
+ghost use Rattle.neli_c_session.specs.Reads.{reader_of};
 
 use crate::lending::Lending;
 use neli_c_parts::code::{IN_USE, MEMORY, OK, STATE};
@@ -381,6 +382,54 @@ pub extern "C" fn neli_c_session_is_in_use(
     let is_in_use = held.is_in_use(number);
     session.put(held);
     if is_in_use { IN_USE } else { OK }
+}
+
+/// Reports which request has something to read: an item, a loss or the end. `number` is that of the first in line: a
+/// request joins the line at its end when it has something, goes to the end again when it was read
+/// (`neli_c_session_pass`) and has more, and leaves when it has nothing or is closed. It takes no memory, and the session is
+/// unchanged.
+///
+/// Returns `ITEM`, or `WAITS` if none has; then `number` is unchanged.
+#[unsafe(no_mangle)]
+pub extern "C" fn neli_c_session_ready(
+    alloc: Global,
+    session: &mut NeliSession,
+    number: &mut u32,
+) -> i32
+    ensures closed { session.old.place.value ≡ None
+        → (result ≡ state) × (session.new.place.value ≡ None) × (number.new ≡ number.old) }
+    ensures same { session.new.place.value ≡ session.old.place.value }
+    ensures open { IfSome session.old.place.value (λ s. TellsReady result s number.old number.new) }
+{
+    let Some(held) = session.take(alloc) else {
+        return STATE;
+    };
+    let code = reading::next_ready(&held, number);
+    session.put(held);
+    code
+}
+
+/// Returns `ITEM` if a reader of `enum neli_reader` has something to read, or else `WAITS`; the number is the request's.
+/// It takes no memory, and the session is unchanged.
+#[unsafe(no_mangle)]
+pub extern "C" fn neli_c_session_is_ready(
+    alloc: Global,
+    session: &mut NeliSession,
+    reader: u32,
+    number: u32,
+) -> i32
+    ensures closed { session.old.place.value ≡ None
+        → (result ≡ state) × (session.new.place.value ≡ None) }
+    ensures same { session.new.place.value ≡ session.old.place.value }
+    ensures open { IfSome session.old.place.value
+        (λ s. result ≡ (if is_ready_of (reader_of reader number) s then item else waits)) }
+{
+    let Some(held) = session.take(alloc) else {
+        return STATE;
+    };
+    let code = reading::is_ready(&held, reader, number);
+    session.put(held);
+    code
 }
 
 /// Chooses the datagram to send next, which `neli_c_session_outgoing` lends then: the one on its way, until

@@ -10,8 +10,11 @@ use Rattle.neli_lent.specs.Messages.{messages_in}
 use Rattle.neli_session.specs.Mails.{answers_at_once, entries_of, numbers_in, on_its_way, request_length, running_with, still_waiting}
 use Rattle.neli_session.specs.declared.loss.Loss.TheVariants as loss
 use Rattle.neli_session.specs.declared.sending.SendError.{SendError}
+use Rattle.neli_session.specs.declared.request.Request.{Request}
 use Rattle.neli_session.specs.declared.session.Session.{Session}
+use Rattle.neli_session.specs.Lines.{without}
 use Rattle.neli_session.specs.Messages.{IsWhole, messages_of}
+use Rattle.neli_session.specs.Readiness.{line_after_all, line_among, line_received}
 use Rattle.neli_session.specs.Requests.{left_at, lost, sent_at, settled, unsent}
 use Rattle.neli_session.specs.Sends.{IsQueued, IsRequested, NothingQueued, RefusesSend, SameBesides, SameNames}
 use Rattle.neli_session.specs.Sends.{SameParcels, SameReaders, SameSending, ends_now, is_idle, next_of, runs_now}
@@ -28,6 +31,7 @@ is_set byte = not (byte == 0)
 abbrev pub IsNew : NlFamily → ℕ → Bool → Session → Type 0
 IsNew protocol port keeps s =
     (s.protocol ≡ protocol) × (s.port ≡ port) × (s.next_number ≡ 0) × ((q : ℕ) → at s.requests q ≡ None)
+    × (s.requests.line ≡ [])
     × (s.awaited.items ≡ []) × (s.outbox.items ≡ []) × (s.leaving ≡ None) × (s.running ≡ None)
     × (s.is_congested ≡ false) × (s.multicast ≡ Some []) × (s.unasked ≡ kept_queue keeps)
 
@@ -49,6 +53,10 @@ TakesNumber code s t old new =
     ((code ≡ ok) ⊎ (code ≡ in_use)) × (code ≡ ok → at s.requests new ≡ None) × (code ≢ ok → new ≡ old)
     × SameButNumber s t
 
+-- the requests that have something to read stand as they did
+abbrev pub SameLine : Session → Session → Type 0
+SameLine s t = t.requests.line ≡ s.requests.line
+
 -- why these bytes are not sent, as requests that are answered so, or by the table
 abbrev pub RefusesFor : ℤ → Option Answering → List ℕ → Session → Type 0
 RefusesFor code by bytes s =
@@ -58,7 +66,7 @@ RefusesFor code by bytes s =
 abbrev pub Queues : ℤ → Option Answering → List ℕ → Session → Session → Type 0
 Queues code by bytes s t =
     (code ≡ ok → IsQueued bytes (entries_of s.protocol by bytes) s t)
-    × (code ≢ ok → RefusesFor code by bytes s × NothingQueued s t) × SameBesides s t
+    × (code ≢ ok → RefusesFor code by bytes s × NothingQueued s t) × SameLine s t × SameBesides s t
 
 -- the way to answer that has this number, if one has
 abbrev pub answering_in : ℕ → Option Answering
@@ -81,7 +89,12 @@ SendsRequest code type flags body s t old new =
     (code ≡ ok → IsRequested type flags body new s t)
     × (code ≢ ok → NothingQueued s t × (new ≡ old))
     × (code ≡ bad_length → 4294967295 < request_length body)
-    × SameAround s t
+    × SameLine s t × SameAround s t
+
+-- the line after this happened to the requests with these numbers, in order
+abbrev pub LineIsChanged : List ℕ → (Request → Request) → Session → Session → Type 0
+LineIsChanged numbers f s t =
+    t.requests.line ≡ line_among numbers (λ o. kept (option_map f o)) (at s.requests) s.requests.line
 
 -- a request after this, if there is one
 abbrev pub changed_in : {R : Type 0} → Option R → (R → R) → Option R
@@ -95,6 +108,7 @@ ChoosesNext s t =
     × (t.running ≡ running_with (next_of s) s.running)
     × ((q : ℕ) → at t.requests q ≡ among (numbers_in (next_of s))
     (λ o. kept (changed_in o (λ r. record r { stage = left_at r.stage }))) q (at s.requests q))
+    × LineIsChanged (numbers_in (next_of s)) (λ r. record r { stage = left_at r.stage }) s t
     × (t.awaited ≡ s.awaited) × SameNames s t × SameReaders s t × (t.is_congested ≡ s.is_congested)
 
 -- the same, and whether something is on its way then
@@ -111,13 +125,14 @@ IsGone s t =
 abbrev pub IsSent : Session → Session → Type 0
 IsSent s t =
     ((q : ℕ) → at t.requests q ≡ among (numbers_in s.leaving)
-    (λ o. kept (changed_in o (λ r. record r { stage = sent_at r.stage }))) q (at s.requests q)) × IsGone s t
+    (λ o. kept (changed_in o (λ r. record r { stage = sent_at r.stage }))) q (at s.requests q))
+    × LineIsChanged (numbers_in s.leaving) (λ r. record r { stage = sent_at r.stage }) s t × IsGone s t
 
 -- it was not: its requests lose that
 abbrev pub IsUnsent : ℤ → Session → Session → Type 0
 IsUnsent errno s t =
     ((q : ℕ) → at t.requests q ≡ among (numbers_in s.leaving) (λ o. kept (option_map (unsent errno) o)) q
-    (at s.requests q)) × IsGone s t
+    (at s.requests q)) × LineIsChanged (numbers_in s.leaving) (unsent errno) s t × IsGone s t
 
 -- ---- what comes
 
@@ -129,6 +144,7 @@ HasCome bytes group joined s t =
     × ((e : DeError) → (messages_in {K = ℕ} (λ n. n) bytes).1 ≡ Some e
     → HaveComeBeforeLoss s.port group joined (messages_of bytes) s.awaited.items (at s.requests) (at t.requests)
     s.multicast t.multicast s.unasked t.unasked)
+    × (t.requests.line ≡ line_received s.port group bytes s.awaited.items (at s.requests) s.requests.line)
 
 -- after the messages of its first bytes, so many
 abbrev pub HasComeInPart : List ℕ → ℕ → ℕ → Bool → Session → Session → Type 0
@@ -136,6 +152,7 @@ HasComeInPart bytes n group joined s t =
     (n ≤ length bytes) × IsWhole (take n bytes)
     × HaveCome s.port group joined (messages_of (take n bytes)) (at s.requests) (at t.requests)
     s.multicast t.multicast s.unasked t.unasked
+    × (t.requests.line ≡ line_after_all s.port group (messages_of (take n bytes)) (at s.requests) s.requests.line)
 
 -- a datagram is taken in; or memory ran out, and its first messages are
 abbrev pub TakesIn : ℤ → List ℕ → ℕ → Bool → Session → Session → ℕ → Type 0
@@ -150,6 +167,7 @@ abbrev pub Fails : ℤ → Session → Session → Type 0
 Fails errno s t =
     ((q : ℕ) → at t.requests q ≡ among s.awaited.items
     (λ o. kept (option_map (lost (loss.Link errno)) o)) q (at s.requests q))
+    × LineIsChanged s.awaited.items (lost (loss.Link errno)) s t
     × (t.multicast ≡ gains (Err (loss.Link errno) ∷ []) s.multicast)
     × (t.unasked ≡ gains (Err (loss.Link errno) ∷ []) s.unasked)
     × (t.is_congested ≡ (int_eq errno (pos 105) || s.is_congested))
@@ -167,6 +185,7 @@ abbrev pub FallsQuiet : Session → Session → Type 0
 FallsQuiet s t =
     ((q : ℕ) → at t.requests q ≡ among (ends_now s)
     (λ o. kept (changed_in o (λ r. record r { stage = settled r.stage }))) q (at s.requests q))
+    × LineIsChanged (ends_now s) (λ r. record r { stage = settled r.stage }) s t
     × (t.awaited.items ≡ (if answers_at_once s.protocol && is_idle s then [] else s.awaited.items))
     × (t.is_congested ≡ false)
     × SameNames s t × SameParcels s t × SameReaders s t
@@ -180,7 +199,8 @@ SameOthers number s t = (q : ℕ) → nat_eq number q ≡ false → at t.request
 -- nobody reads this request any more
 abbrev pub Closes : ℕ → Session → Session → Type 0
 Closes number s t =
-    (at t.requests number ≡ closed_at (at s.requests number)) × SameOthers number s t × SameReaders s t × SameSending s t
+    (at t.requests number ≡ closed_at (at s.requests number)) × SameOthers number s t
+    × (t.requests.line ≡ without number s.requests.line) × SameReaders s t × SameSending s t
 
 -- nobody reads multicast any more
 abbrev pub ClosesMulticast : Session → Session → Type 0

@@ -9,6 +9,8 @@ use Rattle.neli_session.specs.declared.reading.Reader.{Reader}
 use Rattle.neli_session.specs.declared.reading.Reader.TheVariants as reader
 use Rattle.neli_session.specs.declared.request.Verdict.{Verdict}
 use Rattle.neli_session.specs.declared.session.Session.{Session}
+use Rattle.neli_session.specs.Lines.{first_in, is_in}
+use Rattle.neli_session.specs.Readiness.{is_reader_ready, read_in, ready_at}
 use Rattle.neli_session.specs.Requests.{code_or_zero, verdict_of}
 use Rattle.neli_session.specs.Sends.{SameReaders, SameSending}
 use Rattle.neli_session.specs.Sessions.{IsReplyOf, IsReplyOfQueue, at, filtered_at, passed_at, without_first}
@@ -65,13 +67,31 @@ abbrev pub LendsNext : ℤ → ℕ → ℕ → Session → NeliLent → NeliLent
 LendsNext code kind number s old new =
     (n : Next) × IsNextOf (reader_of kind number) s n × (code ≡ next_code (kind == 0) n) × Stores (kind == 0) n old new
 
+-- ---- who has something
+
+-- the reader of this kind has something to read; of another kind there is none
+abbrev pub is_ready_of : Option Reader → Session → Bool
+is_ready_of None s = false
+is_ready_of (Some r) s = is_reader_ready s.multicast s.unasked (at s.requests) r
+
+-- the number of the first request in line is told, if one has something
+abbrev pub TellsFirst : ℤ → Option ℕ → ℕ → ℕ → Type 0
+TellsFirst code None old new = (code ≡ waits) × (new ≡ old)
+TellsFirst code (Some n) old new = (code ≡ item) × (new ≡ n)
+
+-- that of a session, whose line has exactly the requests that have something
+abbrev pub TellsReady : ℤ → Session → ℕ → ℕ → Type 0
+TellsReady code s old new =
+    TellsFirst code (first_in s.requests.line) old new × ((q : ℕ) → is_in q s.requests.line ≡ ready_at (at s.requests q))
+
 -- ---- the step past it
 
 -- a reader's next item is gone, and nothing else changes
 abbrev pub PassesBy : Option Reader → Session → Session → Type 0
 PassesBy None s t = t ≡ s
 PassesBy (Some (reader.Request q)) s t =
-    (at t.requests q ≡ passed_at (at s.requests q)) × SameOthers q s t × SameReaders s t × SameSending s t
+    (at t.requests q ≡ passed_at (at s.requests q)) × SameOthers q s t
+    × (t.requests.line ≡ read_in (ready_at (at t.requests q)) q s.requests.line) × SameReaders s t × SameSending s t
 PassesBy (Some reader.Multicast) s t =
     (t.multicast ≡ without_first s.multicast) × (t.requests ≡ s.requests) × (t.unasked ≡ s.unasked) × SameSending s t
 PassesBy (Some reader.Unasked) s t =

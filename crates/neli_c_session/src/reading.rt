@@ -1,11 +1,12 @@
 //! What is read.
 
-ghost use Rattle.std.specs.Prelude.{◌≡◌};
+ghost use Rattle.std.specs.Prelude.{◌≡◌, if◌then◌else◌};
+ghost use Rattle.neli_c_parts.specs.Codes.{item, waits};
 ghost use Rattle.neli_lent.specs.Messages.{message_view};
 ghost use Rattle.neli_c_session.specs.Calls.{Closes, ClosesMulticast};
 ghost use Rattle.neli_session.specs.Requests.{code_or_zero};
 ghost use Rattle.neli_c_session.specs.Reads.{LendsNext, LendsOutgoing, PassesNext, Stores, TellsVerdict, byte_of};
-ghost use Rattle.neli_c_session.specs.Reads.{error_code, next_code};
+ghost use Rattle.neli_c_session.specs.Reads.{TellsReady, error_code, is_ready_of, next_code};
 ghost use Rattle.neli_c_session.specs.Reads.{reader_of, shown_error};
 
 use crate::outcome::{errno_of, of_loss, of_verdict, verdict_error};
@@ -111,6 +112,30 @@ pub fn pass(session: &mut Session, kind: u32, number: u32)
         Some(Reader::Unasked) => session.pass_unasked(),
         None => {}
     }
+}
+
+/// The number of the first request in line, of those that have something to read.
+pub fn next_ready(session: &Session, number: &mut u32) -> i32
+    ensures { TellsReady result session.now number.old number.new }
+{
+    match session.next_ready() {
+        Some(ready) => {
+            *number = ready;
+            ITEM
+        }
+        None => WAITS,
+    }
+}
+
+/// Whether a reader of this kind has something to read.
+pub fn is_ready(session: &Session, kind: u32, number: u32) -> i32
+    ensures { result ≡ (if is_ready_of (reader_of kind number) session.now then item else waits) }
+{
+    let is_ready = match reader_of(kind, number) {
+        Some(reader) => session.is_ready(reader),
+        None => false,
+    };
+    if is_ready { ITEM } else { WAITS }
 }
 
 /// Lends the datagram on its way.

@@ -14,3 +14,5 @@ mod Regrouped
 mod Readers
 mod Turns
 mod Verdicts
+pub mod Lines
+pub mod Readiness

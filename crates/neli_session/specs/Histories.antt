@@ -15,6 +15,7 @@ use Rattle.neli_session.specs.declared.request.Request.{Request}
 use Rattle.neli_session.specs.declared.session.Session.{Session}
 use Rattle.neli_session.specs.Happenings.{Changed, Happening, Read, after_happenings, answer, came_for, item_list, left}
 use Rattle.neli_session.specs.Happenings.{returned_by}
+pub use Rattle.neli_session.specs.Lines.{is_in}
 use Rattle.neli_session.specs.Messages.{IsWhole, messages_of}
 use Rattle.neli_session.specs.Requests.{first_item, is_over, next_item}
 use Rattle.neli_session.specs.Mails.{Mail, answering_by, answers_at_once, entries_of, mail_of, numbers_in, on_its_way}
@@ -161,11 +162,6 @@ last s [] = s
 last s (m ∷ ms) = last m.session ms
 
 -- ---- what the calls are for the request with one number
-
--- the number is one of these
-abbrev pub is_in : ℕ → List ℕ → Bool
-is_in q [] = false
-is_in q (n ∷ ns) = (n == q) || is_in q ns
 
 -- it happens, or does not
 abbrev pub if_so : Bool → Happening → List Happening

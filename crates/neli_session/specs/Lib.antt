@@ -1,7 +1,9 @@
 pub mod Messages
 pub mod Waiting
+pub mod Lines
 pub mod Requests
 pub mod Sessions
+pub mod Readiness
 pub mod Mails
 pub mod Sends
 pub mod Words

@@ -1,6 +1,7 @@
 -- A request: what comes for it, until nothing more can come.
-use Rattle.std.specs.Prelude.{ℕ, ℤ, pos, Bool, true, false, not, ◌&&◌, ◌||◌, ◌==◌, nat_lt, if◌then◌else◌}
+use Rattle.std.specs.Prelude.{ℕ, ℤ, pos, Bool, true, false, not, ◌&&◌, ◌||◌, ◌==◌, nat_eq, nat_lt, if◌then◌else◌}
 use Rattle.std.specs.Prelude.{List, [], ◌∷◌, ◌++◌, length, Option, Some, None, Ok, Err, is_some}
+use Rattle.std.specs.Map.{lookup}
 use Rattle.std.specs.Ordering.{int_eq}
 use Rattle.neli_answers.specs.Answers.{ends_answer, has_all}
 use Rattle.neli_answers.specs.declared.answering.Answering.{Answering}
@@ -169,3 +170,14 @@ passed_by [] None r = r
 -- after the next item was read
 abbrev pub passed : Request → Request
 passed r = passed_by r.waiting (untold r) r
+
+-- ---- the requests whose numbers are in use
+
+-- the requests by their numbers, and the numbers of those that have something to read, in order
+pub record Held : Type 0 where
+  pub entries : List (ℕ × Request)
+  pub line : List ℕ
+
+-- the request with a number, if it is in use
+abbrev pub of_number : ℕ → List (ℕ × Request) → Option Request
+of_number q entries = lookup (nat_eq q) entries

@@ -2,7 +2,6 @@
 use Rattle.std.specs.Prelude.{◌≡◌, ℕ, Bool, true, false, not, ◌&&◌, ◌||◌, ◌==◌, if◌then◌else◌, List, [], ◌∷◌, ◌++◌}
 use Rattle.std.specs.Prelude.{Option, Some, None, is_some, nat_eq, Ok, Err}
 use Rattle.std.specs.Option.{option_map}
-use Rattle.std.specs.HashMap.{HashMap, get}
 use Rattle.neli_answers.specs.declared.answering.Answering.{Answering}
 use Rattle.neli_lent.specs.Messages.{Lent, message_view}
 use Rattle.neli_session.specs.declared.change.Change.{Change}
@@ -13,12 +12,12 @@ use Rattle.neli_session.specs.declared.reading.Next.TheVariants as next
 use Rattle.neli_session.specs.declared.request.Request.{Request}
 use Rattle.neli_session.specs.declared.request.Stage.TheVariants as stage
 use Rattle.neli_session.specs.declared.request.Verdict.TheVariants as stands
-use Rattle.neli_session.specs.Requests.{answers, changed, first_item, heard, is_over, next_item, passed}
+use Rattle.neli_session.specs.Requests.{Held, answers, changed, first_item, heard, is_over, next_item, of_number, passed}
 use Rattle.neli_session.specs.Waiting.{Item}
 
 -- the request with a number, if it is in use
-abbrev pub at : {S : Type 0} → HashMap ℕ Request S → ℕ → Option Request
-at requests q = get nat_eq requests q
+abbrev pub at : Held → ℕ → Option Request
+at requests q = of_number q requests.entries
 
 -- a request that nobody reads is forgotten once nothing comes for it
 abbrev pub kept : Option Request → Option Request

@@ -24,6 +24,7 @@ mod chunk;
 mod entry;
 mod frame;
 pub mod laws;
+mod line;
 mod loss;
 mod outbox;
 mod queue;

@@ -130,7 +130,10 @@ impl Queue {
     pub(crate) fn is_empty(&self) -> bool
         ensures { IsTrue result ↔ (self.now ≡ []) }
     {
-        self.first().is_none()
+        match self.entries.front() {
+            None => true,
+            Some(_) => false,
+        }
     }
 
     /// The first item.

@@ -1,12 +1,13 @@
 //! What is read.
 
 ghost use Rattle.std.specs.Prelude.{◌≡◌, ℕ, None, Some, IfSome, IsNone, false, nat_eq, option_map};
+ghost use Rattle.neli_session.specs.Lines.{first_in, is_in, without};
+ghost use Rattle.neli_session.specs.Readiness.{has_some, is_reader_ready, read_in, ready_at};
 ghost use Rattle.neli_session.specs.Requests.{verdict_of};
 ghost use Rattle.neli_session.specs.Sends.{SameSending};
 ghost use Rattle.neli_session.specs.Sessions.{IsReplyOf, IsReplyOfQueue, at, closed_at, filtered_at, passed_at, without_first};
 
 use crate::queue::Queue;
-use crate::requests::{close, pass};
 use crate::{Loss, Session, Verdict};
 use neli_lent::LentMessage;
 
@@ -50,6 +51,16 @@ fn next_in(queue: &Option<Queue>) -> Next<'_>
     }
 }
 
+/// Whether something waits in a queue.
+fn has_some(queue: &Option<Queue>) -> bool
+    ensures { result ≡ has_some queue.now }
+{
+    match queue {
+        None => false,
+        Some(queue) => !queue.is_empty(),
+    }
+}
+
 /// Goes past the first of a queue, if there is one.
 fn pass_in(queue: &mut Option<Queue>)
     ensures { queue.new ≡ without_first queue.old }
@@ -64,7 +75,7 @@ impl Session {
     fn next_answer(&self, number: u32) -> Next<'_>
         ensures { IsReplyOf (at self.now.requests number) result }
     {
-        let Some(request) = self.requests.get(&number) else {
+        let Some(request) = self.requests.get(number) else {
             return Next::Closed;
         };
         if !request.is_open {
@@ -99,16 +110,43 @@ impl Session {
         }
     }
 
+    /// The number of the first request in line: of those whose [`Session::next`] returns an item, a loss or the end. A
+    /// request joins the line at its end when it has something to read, goes to the end again when it was read
+    /// ([`Session::pass_answer`]) and has more, and leaves when it has nothing or is closed. So who reads the first, and
+    /// passes its item or closes it at the end, reads all in turn. It takes constant time, and no memory.
+    pub fn next_ready(&self) -> Option<u32>
+        ensures first { result ≡ first_in self.now.requests.line }
+        ensures ready { (q : ℕ) → is_in q self.now.requests.line ≡ ready_at (at self.now.requests q) }
+    {
+        self.requests.first_ready()
+    }
+
+    /// Whether a read of this reader returns an item, a loss or the end. It takes constant time, and no memory.
+    pub fn is_ready(&self, reader: Reader) -> bool
+        ensures { result ≡ is_reader_ready self.now.multicast self.now.unasked (at self.now.requests) reader }
+    {
+        match reader {
+            Reader::Request(number) => match self.requests.get(number) {
+                None => false,
+                Some(request) => request.is_ready(),
+            },
+            Reader::Multicast => has_some(&self.multicast),
+            Reader::Unasked => has_some(&self.unasked),
+        }
+    }
+
     /// Goes past the next item of the answer to a request, if there is one.
     pub fn pass_answer(&mut self, number: u32)
         ensures own { at self.new.requests number ≡ passed_at (at self.old.requests number) }
         ensures others { (q : ℕ) → nat_eq number q ≡ false
             → at self.new.requests q ≡ at self.old.requests q }
+        ensures line { self.new.requests.line
+            ≡ read_in (ready_at (at self.new.requests number)) number self.old.requests.line }
         ensures multicast { self.new.multicast ≡ self.old.multicast }
         ensures unasked { self.new.unasked ≡ self.old.unasked }
         ensures sending { SameSending self.old self.new }
     {
-        pass(&mut self.requests, number);
+        self.requests.pass(number);
     }
 
     /// Goes past the next message or loss of multicast, if there is one.
@@ -135,7 +173,7 @@ impl Session {
     pub fn verdict(&self, number: u32) -> Option<Verdict>
         ensures { result ≡ option_map verdict_of (at self.now.requests number) }
     {
-        match self.requests.get(&number) {
+        match self.requests.get(number) {
             None => None,
             Some(request) => Some(request.verdict()),
         }
@@ -146,7 +184,7 @@ impl Session {
     pub fn is_filtered(&self, number: u32) -> bool
         ensures { result ≡ filtered_at (at self.now.requests number) }
     {
-        match self.requests.get(&number) {
+        match self.requests.get(number) {
             None => false,
             Some(request) => request.is_filtered,
         }
@@ -158,10 +196,11 @@ impl Session {
         ensures own { at self.new.requests number ≡ closed_at (at self.old.requests number) }
         ensures others { (q : ℕ) → nat_eq number q ≡ false
             → at self.new.requests q ≡ at self.old.requests q }
+        ensures line { self.new.requests.line ≡ without number self.old.requests.line }
         ensures multicast { self.new.multicast ≡ self.old.multicast }
         ensures unasked { self.new.unasked ≡ self.old.unasked }
         ensures sending { SameSending self.old self.new }
     {
-        close(&mut self.requests, number);
+        self.requests.close(number);
     }
 }

@@ -5,6 +5,7 @@ ghost use Rattle.std.specs.Ordering.{int_eq};
 ghost use Rattle.neli_wire.specs.declared.errors.DeError.{DeError};
 ghost use Rattle.neli_lent.specs.Messages.{messages_in};
 ghost use Rattle.neli_session.specs.Messages.{IsWhole, messages_of};
+ghost use Rattle.neli_session.specs.Readiness.{line_after_all, line_among, line_received};
 ghost use Rattle.neli_session.specs.Sends.{SameNames, SameParcels, SameSending};
 ghost use Rattle.neli_session.specs.Sessions.{HaveCome, HaveComeBeforeLoss, among, at, gains, when};
 
@@ -56,6 +57,12 @@ impl Session {
             × HaveCome self.old.port group is_joined (messages_of (take u.taken datagram.now))
             (at self.old.requests) (at self.new.requests) self.old.multicast self.new.multicast
             self.old.unasked self.new.unasked) }
+        ensures line { OnOk result (self.new.requests.line
+            ≡ line_received self.old.port group datagram.now self.old.awaited.items
+            (at self.old.requests) self.old.requests.line) }
+        ensures line_part { IfErr result (λ u. self.new.requests.line
+            ≡ line_after_all self.old.port group (messages_of (take u.taken datagram.now))
+            (at self.old.requests) self.old.requests.line) }
         ensures sending { SameSending self.old self.new }
     {
         let mut place = 0;
@@ -83,6 +90,9 @@ impl Session {
         ensures requests { OnOk result ((q : ℕ) → at self.new.requests q
             ≡ among self.old.awaited.items (when (Change.Lose (Loss.Link errno))) q
             (at self.old.requests q)) }
+        ensures line { OnOk result (self.new.requests.line
+            ≡ line_among self.old.awaited.items (when (Change.Lose (Loss.Link errno)))
+            (at self.old.requests) self.old.requests.line) }
         ensures multicast { OnOk result (self.new.multicast
             ≡ gains (Err (Loss.Link errno) ∷ []) self.old.multicast) }
         ensures unasked { OnOk result (self.new.unasked

@@ -4,6 +4,7 @@ ghost use Rattle.std.specs.Prelude.{◌≡◌, ◌++◌, ◌∷◌, [], None, Ok
 ghost use Rattle.neli_lent.specs.Messages.{message_view};
 ghost use Rattle.neli_answers.specs.Answers.{ends_answer};
 ghost use Rattle.neli_session.specs.Messages.{IsMessage};
+ghost use Rattle.neli_session.specs.Readiness.{is_ready};
 ghost use Rattle.neli_session.specs.Waiting.{lent_item};
 ghost use Rattle.neli_session.specs.Requests.{answers, changed, code_of, code_or_zero, end_verdict, heard, is_awaited};
 ghost use Rattle.neli_session.specs.Requests.{is_marked, is_over, item_verdict, left_at, lost, message_verdict, next_item, passed};
@@ -322,6 +323,13 @@ impl Request {
         ensures { result ≡ has_ended self.now }
     {
         self.stage.is_over() || self.loss.is_some()
+    }
+
+    /// Whether somebody reads it, and a read returns an item, a loss or the end.
+    pub(crate) fn is_ready(&self) -> bool
+        ensures { result ≡ is_ready self.now }
+    {
+        self.is_open && (self.has_ended() || !self.waiting.is_empty())
     }
 
     /// Keeps nothing of its answer any more. It takes no memory.

@@ -2,6 +2,7 @@
 
 ghost use Rattle.std.specs.Prelude.{◌≡◌, ◌<◌, ◌&&◌, ℕ, [], false, None, Some, if◌then◌else◌, IfErr, IfOk, IfSome, IsErrOf, IsNone, OnErr, OnOk};
 ghost use Rattle.std.specs.Prelude.{is_some, option_map};
+ghost use Rattle.neli_session.specs.Readiness.{line_among};
 ghost use Rattle.neli_session.specs.Sessions.{among, at, when};
 ghost use Rattle.neli_session.specs.Mails.{answers_at_once, dumps_of, entries_of, first_of, numbers_in, on_its_way, request_length};
 ghost use Rattle.neli_session.specs.Mails.{running_with, still_waiting};
@@ -14,7 +15,7 @@ use crate::change::Change;
 use crate::entry::{Entry, dump_in, entries_in};
 use crate::frame::frame;
 use crate::outbox::{Parcel, post, take_next, unpost};
-use crate::requests::{Unadded, add_all, change_all};
+use crate::requests::Unadded;
 use neli_answers::Answering;
 use neli_consts::NlmF;
 use neli_consts_system::NlFamily;
@@ -81,7 +82,7 @@ impl Session {
         let Some(number) = self.running else {
             return false;
         };
-        match self.requests.get(&number) {
+        match self.requests.get(number) {
             None => false,
             Some(request) => request.is_running(),
         }
@@ -98,6 +99,7 @@ impl Session {
         ensures added { OnOk result (Adds requests.now entries.now self.old self.new) }
         ensures in_use { IfErr result (RefusesSend requests.now entries.now self.old) }
         ensures unchanged { OnErr result (NothingQueued self.old self.new) }
+        ensures line { self.new.requests.line ≡ self.old.requests.line }
         ensures rest { SameBesides self.old self.new }
     {
         let Ok(parcel) = Parcel::new(self.alloc, requests, entries, dump) else {
@@ -106,7 +108,7 @@ impl Session {
         if post(&mut self.outbox, &mut self.awaited, parcel).is_err() {
             return Err(SendError::Memory);
         }
-        match add_all(&mut self.requests, self.alloc, entries) {
+        match self.requests.add_all(self.alloc, entries) {
             Ok(()) => Ok(()),
             Err(refusal) => {
                 unpost(&mut self.outbox, &mut self.awaited, entries.len());
@@ -125,6 +127,7 @@ impl Session {
         ensures refused { IfErr result (RefusesSend requests.now
             (entries_of self.old.protocol by requests.now) self.old) }
         ensures unchanged { OnErr result (NothingQueued self.old self.new) }
+        ensures line { self.new.requests.line ≡ self.old.requests.line }
         ensures rest { SameBesides self.old self.new }
     {
         match entries_in(self.alloc, self.protocol, by, requests) {
@@ -154,6 +157,7 @@ impl Session {
         ensures refused { IfErr result (RefusesSend requests.now
             (entries_of self.old.protocol None requests.now) self.old) }
         ensures unchanged { OnErr result (NothingQueued self.old self.new) }
+        ensures line { self.new.requests.line ≡ self.old.requests.line }
         ensures rest { SameBesides self.old self.new }
     {
         self.send_by(requests, None)
@@ -168,6 +172,7 @@ impl Session {
             (λ n. IsRequested nl_type flags body.now n self.old self.new) }
         ensures long { IsErrOf result SendError.Length → 4294967295 < request_length body.now }
         ensures unchanged { OnErr result (NothingQueued self.old self.new) }
+        ensures line { self.new.requests.line ≡ self.old.requests.line }
         ensures readers { SameReaders self.old self.new }
         ensures leaving { self.new.leaving ≡ self.old.leaving }
         ensures running { self.new.running ≡ self.old.running }
@@ -195,6 +200,7 @@ impl Session {
         ensures refused { IfErr result (RefusesSend requests.now
             (entries_of self.old.protocol (Some answering) requests.now) self.old) }
         ensures unchanged { OnErr result (NothingQueued self.old self.new) }
+        ensures line { self.new.requests.line ≡ self.old.requests.line }
         ensures rest { SameBesides self.old self.new }
     {
         self.send_by(requests, Some(answering))
@@ -212,6 +218,9 @@ impl Session {
         ensures running { self.new.running ≡ running_with (next_of self.old) self.old.running }
         ensures requests { (q : ℕ) → at self.new.requests q
             ≡ among (numbers_in (next_of self.old)) (when Change.Leave) q (at self.old.requests q) }
+        ensures line { self.new.requests.line
+            ≡ line_among (numbers_in (next_of self.old)) (when Change.Leave) (at self.old.requests)
+            self.old.requests.line }
         ensures awaited { self.new.awaited ≡ self.old.awaited }
         ensures names { SameNames self.old self.new }
         ensures readers { SameReaders self.old self.new }
@@ -230,7 +239,7 @@ impl Session {
         if let Some(number) = parcel.dump() {
             self.running = Some(number);
         }
-        change_all(&mut self.requests, parcel.numbers(), Change::Leave);
+        self.requests.change_all(parcel.numbers(), Change::Leave);
         self.leaving = Some(parcel);
         true
     }
@@ -251,6 +260,9 @@ impl Session {
         ensures leaving { self.new.leaving ≡ None }
         ensures requests { (q : ℕ) → at self.new.requests q
             ≡ among (numbers_in self.old.leaving) (when by) q (at self.old.requests q) }
+        ensures line { self.new.requests.line
+            ≡ line_among (numbers_in self.old.leaving) (when by) (at self.old.requests)
+            self.old.requests.line }
         ensures outbox { self.new.outbox ≡ self.old.outbox }
         ensures running { self.new.running ≡ self.old.running }
         ensures awaited { self.new.awaited ≡ self.old.awaited }
@@ -259,7 +271,7 @@ impl Session {
         ensures congested { self.new.is_congested ≡ self.old.is_congested }
     {
         if let Some(parcel) = self.leaving.take() {
-            change_all(&mut self.requests, parcel.numbers(), by);
+            self.requests.change_all(parcel.numbers(), by);
         }
     }
 
@@ -268,6 +280,9 @@ impl Session {
         ensures leaving { self.new.leaving ≡ None }
         ensures requests { (q : ℕ) → at self.new.requests q
             ≡ among (numbers_in self.old.leaving) (when Change.Sent) q (at self.old.requests q) }
+        ensures line { self.new.requests.line
+            ≡ line_among (numbers_in self.old.leaving) (when Change.Sent) (at self.old.requests)
+            self.old.requests.line }
         ensures outbox { self.new.outbox ≡ self.old.outbox }
         ensures running { self.new.running ≡ self.old.running }
         ensures awaited { self.new.awaited ≡ self.old.awaited }
@@ -284,6 +299,9 @@ impl Session {
         ensures leaving { self.new.leaving ≡ None }
         ensures requests { (q : ℕ) → at self.new.requests q
             ≡ among (numbers_in self.old.leaving) (when (Change.Unsent errno)) q (at self.old.requests q) }
+        ensures line { self.new.requests.line
+            ≡ line_among (numbers_in self.old.leaving) (when (Change.Unsent errno)) (at self.old.requests)
+            self.old.requests.line }
         ensures outbox { self.new.outbox ≡ self.old.outbox }
         ensures running { self.new.running ≡ self.old.running }
         ensures awaited { self.new.awaited ≡ self.old.awaited }
@@ -300,6 +318,9 @@ impl Session {
     pub fn quiet(&mut self)
         ensures requests { (q : ℕ) → at self.new.requests q
             ≡ among (ends_now self.old) (when Change.Settle) q (at self.old.requests q) }
+        ensures line { self.new.requests.line
+            ≡ line_among (ends_now self.old) (when Change.Settle) (at self.old.requests)
+            self.old.requests.line }
         ensures awaited { self.new.awaited.items
             ≡ (if answers_at_once self.old.protocol && is_idle self.old then []
             else self.old.awaited.items) }
@@ -312,7 +333,7 @@ impl Session {
         if !answers_at_once(self.protocol) {
             return;
         }
-        change_all(&mut self.requests, &self.awaited, Change::Settle);
+        self.requests.change_all(&self.awaited, Change::Settle);
         if self.outbox.is_empty() && self.leaving.is_none() {
             self.awaited.clear();
         }

@@ -3,6 +3,7 @@
 ghost use Rattle.std.specs.Prelude.{◌≡◌, ◌∷◌, ℕ, true, false, Err, None, Some, is_some, [], OnErr, OnOk, not, ◌==◌};
 ghost use Rattle.neli_lent.specs.Messages.{message_view};
 ghost use Rattle.neli_session.specs.Messages.{IsMessage};
+ghost use Rattle.neli_session.specs.Readiness.{line_after, line_among};
 ghost use Rattle.neli_session.specs.Sessions.{after, among, at, gains, is_heard, is_unasked, kept_queue, share, when};
 ghost use Rattle.neli_session.specs.Sends.{SameSending};
 
@@ -10,9 +11,7 @@ use crate::Loss;
 use crate::change::Change;
 use crate::outbox::Parcel;
 use crate::queue::Queue;
-use crate::request::Request;
-use crate::requests::{change_all, hear, hear_with};
-use indexmap::IndexMap;
+use crate::requests::Requests;
 use neli_consts_system::NlFamily;
 use neli_lent::LentMessage;
 use neli_wire::NoMemory;
@@ -27,7 +26,7 @@ pub struct Session {
     /// The number to try first for a request.
     pub(crate) next_number: u32,
     /// The requests whose numbers are in use.
-    pub(crate) requests: IndexMap<u32, Request>,
+    pub(crate) requests: Requests,
     /// The numbers of the requests that are queued or awaited, and maybe of others.
     pub(crate) awaited: Vec<u32>,
     /// The datagrams that wait to be sent.
@@ -86,6 +85,7 @@ impl Session {
         ensures port { result.port ≡ port }
         ensures number { result.next_number ≡ 0 }
         ensures requests { (q : ℕ) → at result.requests q ≡ None }
+        ensures line { result.requests.line ≡ [] }
         ensures awaited { result.awaited.items ≡ [] }
         ensures outbox { result.outbox.items ≡ [] }
         ensures leaving { result.leaving ≡ None }
@@ -104,7 +104,7 @@ impl Session {
             protocol,
             port,
             next_number: 0,
-            requests: IndexMap::new(alloc),
+            requests: Requests::new(alloc),
             awaited: Vec::new(alloc),
             outbox: Vec::new(alloc),
             leaving: None,
@@ -120,7 +120,7 @@ impl Session {
     pub fn is_in_use(&self, number: u32) -> bool
         ensures { result ≡ is_some (at self.now.requests number) }
     {
-        self.requests.contains_key(&number)
+        self.requests.get(number).is_some()
     }
 
     /// Closes multicast: nothing of it is kept any more.
@@ -150,8 +150,12 @@ impl Session {
         ensures unasked { OnOk result (self.new.unasked
             ≡ gains (share (is_unasked self.old.port group (at self.old.requests)
             (message_view message.now)) (message_view message.now)) self.old.unasked) }
+        ensures line { OnOk result (self.new.requests.line
+            ≡ line_after self.old.port group (message_view message.now) (at self.old.requests)
+            self.old.requests.line) }
         ensures sending { SameSending self.old self.new }
         ensures unchanged { OnErr result (((q : ℕ) → at self.new.requests q ≡ at self.old.requests q)
+            × (self.new.requests.line ≡ self.old.requests.line)
             × (self.new.multicast ≡ self.old.multicast) × (self.new.unasked ≡ self.old.unasked)) }
     {
         let is_own = *message.nl_pid() == self.port;
@@ -161,11 +165,11 @@ impl Session {
         }
         if is_heard {
             if let Some(multicast) = &mut self.multicast {
-                hear_with(&mut self.requests, multicast, group, message, span)?;
+                self.requests.hear_with(multicast, group, message, span)?;
                 return Ok(());
             }
         }
-        let is_taken = hear(&mut self.requests, group, message, span)?;
+        let is_taken = self.requests.hear(group, message, span)?;
         if group == 0 && !is_taken {
             return add(&mut self.unasked, message, span);
         }
@@ -177,6 +181,9 @@ impl Session {
     pub(crate) fn lose(&mut self, loss: Loss) -> Result<(), NoMemory>
         ensures requests { OnOk result ((q : ℕ) → at self.new.requests q
             ≡ among self.old.awaited.items (when (Change.Lose loss)) q (at self.old.requests q)) }
+        ensures line { OnOk result (self.new.requests.line
+            ≡ line_among self.old.awaited.items (when (Change.Lose loss)) (at self.old.requests)
+            self.old.requests.line) }
         ensures multicast { OnOk result (self.new.multicast
             ≡ gains (Err loss ∷ []) self.old.multicast) }
         ensures unasked { OnOk result (self.new.unasked ≡ gains (Err loss ∷ []) self.old.unasked) }
@@ -185,7 +192,7 @@ impl Session {
             × (self.new.multicast ≡ self.old.multicast) × (self.new.unasked ≡ self.old.unasked)) }
     {
         lose_to(&mut self.multicast, &mut self.unasked, loss)?;
-        change_all(&mut self.requests, &self.awaited, Change::Lose(loss));
+        self.requests.change_all(&self.awaited, Change::Lose(loss));
         Ok(())
     }
 

@@ -69,3 +69,34 @@ fn a_dump_is_read_to_its_end(rt: HostRuntime) {
     let read = read_dump(&rt, rt.alloc(), 3107799450, &datagram);
     assert!(rt; matches!(read, Ok((true, 24))), "{read:?}");
 }
+
+/// Requests two dumps, and reads this datagram as the answer to the first, by whoever has something: the bytes of the
+/// payloads.
+fn read_ready(rt: &impl Abort, alloc: Global, port: u32, datagram: &[u8]) -> Result<usize, Refusal> {
+    let mut bytes = 0;
+    let mut session = Session::new(alloc, NlFamily::Route, port, false);
+    session.set_number(1012);
+    for _ in 0..2 {
+        let _ = session.request(30, NlmF::DUMP, &[0; 12])?;
+    }
+    assert!(rt; session.next_outgoing());
+    session.sent();
+    session.receive(datagram, 0, false)?;
+    while let Some(number) = session.next_ready() {
+        if let Next::Message(message) = session.next(Reader::Request(number)) {
+            bytes += message.nl_payload().len();
+            session.pass_answer(number);
+        } else {
+            session.close(number);
+        }
+    }
+    assert!(rt; !session.is_in_use(1012) && session.is_in_use(1013));
+    Ok(bytes)
+}
+
+#[test]
+fn whoever_has_something_is_read(rt: HostRuntime) {
+    let datagram = bytes_of(&rt, rt.alloc(), NEIGHBOUR);
+    let read = read_ready(&rt, rt.alloc(), 3107799450, &datagram);
+    assert!(rt; matches!(read, Ok(24)), "{read:?}");
+}

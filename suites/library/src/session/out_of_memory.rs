@@ -2,7 +2,7 @@
 //! datagram from the bytes on that were not taken in, and all reads return what they return without a refusal.
 
 use super::script::{Grouping, Script, play};
-use super::{answers, numbers, readers, turns};
+use super::{answers, numbers, readers, ready, turns};
 use std::alloc::Global;
 use std::process::Abort;
 
@@ -30,4 +30,9 @@ fn numbers_are_used_after_out_of_memory(rt: HostRuntime) {
 #[test]
 fn requests_take_turns_after_out_of_memory(rt: HostRuntime) {
     play_all(&rt, rt.alloc(), &turns::SCRIPTS);
+}
+
+#[test]
+fn who_is_ready_after_out_of_memory(rt: HostRuntime) {
+    play_all(&rt, rt.alloc(), &ready::SCRIPTS);
 }

@@ -1,16 +1,17 @@
 //! All scripts, as they are written, and with each datagram regrouped in two.
 
 use super::script::{Grouping, Script, play};
-use super::{answers, numbers, readers, turns};
+use super::{answers, numbers, readers, ready, turns};
 use neli::consts::socket::NlFamily;
 use neli::session::{Next, Reader, Session, Verdict};
 
 /// The scripts of all tables.
-pub const TABLES: [&[Script]; 4] = [
+pub const TABLES: [&[Script]; 5] = [
     &answers::SCRIPTS,
     &readers::SCRIPTS,
     &numbers::SCRIPTS,
     &turns::SCRIPTS,
+    &ready::SCRIPTS,
 ];
 
 #[test]

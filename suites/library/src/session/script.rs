@@ -43,6 +43,11 @@ pub enum Step {
     Stands(u32, Option<Verdict>),
     /// Whether this number is in use.
     InUse(u32, bool),
+    /// The first request that has something to read.
+    First(Option<u32>),
+    /// Whether multicast has something, and whether what nobody asked for has.
+    HasMulticast(bool),
+    HasUnasked(bool),
     Close(u32),
     CloseMulticast,
 }
@@ -240,23 +245,37 @@ fn perform(
     }
 }
 
+/// Reads a reader's next item: a session says before whether there is one.
+fn read_next(rt: &impl Abort, session: &Session, reader: Reader, want: Told, place: (&str, usize)) {
+    let has_some = !matches!(want, Told::Waits | Told::Closed);
+    assert_is_at(rt, place, session.is_ready(reader), has_some);
+    assert_is_at(rt, place, told(session, reader), want);
+}
+
 /// Performs a step that reads.
 fn read(rt: &impl Abort, session: &mut Session, step: Step, place: (&str, usize)) {
     match step {
         Step::Answer(number, want) => {
-            assert_is_at(rt, place, told(session, Reader::Request(number)), want);
+            read_next(rt, session, Reader::Request(number), want, place);
             session.pass_answer(number);
         }
         Step::Heard(want) => {
-            assert_is_at(rt, place, told(session, Reader::Multicast), want);
+            read_next(rt, session, Reader::Multicast, want, place);
             session.pass_multicast();
         }
         Step::Unasked(want) => {
-            assert_is_at(rt, place, told(session, Reader::Unasked), want);
+            read_next(rt, session, Reader::Unasked, want, place);
             session.pass_unasked();
         }
         Step::Stands(number, want) => assert_is_at(rt, place, session.verdict(number), want),
         Step::InUse(number, want) => assert_is_at(rt, place, session.is_in_use(number), want),
+        Step::First(want) => assert_is_at(rt, place, session.next_ready(), want),
+        Step::HasMulticast(want) => {
+            assert_is_at(rt, place, session.is_ready(Reader::Multicast), want);
+        }
+        Step::HasUnasked(want) => {
+            assert_is_at(rt, place, session.is_ready(Reader::Unasked), want);
+        }
         _ => rt.panic("no read"),
     }
 }

@@ -2,10 +2,12 @@ use Rattle.std.proofs.Common.{◌∙◌, List, [], ap, rules, subst, sym, take, 
 use Rattle.neli_reader.specs.Cuts.{Cut}
 use Rattle.neli_lent.specs.Messages.{Lent, message_view}
 use Rattle.neli_session.specs.Messages.{messages_of}
-use Rattle.neli_session.specs.Sessions.{HaveCome, HaveComeBeforeLoss, after, among, at, gains, is_heard, is_unasked, share}
+use Rattle.neli_session.specs.Readiness.{line_after, line_after_all, line_among, line_rest}
+use Rattle.neli_session.specs.Sessions.{HaveCome, HaveComeBeforeLoss, after, after_all, among, at, gains, is_heard, is_unasked, share}
 use Rattle.neli_session.specs.Sessions.{when}
 use Rattle.neli_session.specs.declared.change.Change.TheVariants as change
 use Rattle.neli_session.specs.declared.loss.Loss.TheVariants as loss
+use Rattle.neli_session.proofs.Readiness.{among-same, line-more}
 use Rattle.neli_session.proofs.Same.{same-again, same-at-first}
 use Rattle.neli_session.proofs.Datagrams.{come-loss, come-more, come-none, fault-messages, front-messages}
 use Rattle.neli_session.proofs.Messages.{none-there}
@@ -19,6 +21,8 @@ loop-place-init c =
       whole = ap (λ (cut : Cut (Lent ℕ)). cut.1) none-there;
       come = come-none before.port c.args.group c.args.is_joined (messages_of []) (at before.requests) before.multicast
           before.unasked (ap (λ (cut : Cut (Lent ℕ)). cut.0) none-there);
+      line = sym (ap (λ (ms : List (Lent ℕ)). line_after_all before.port c.args.group ms (at before.requests) before.requests.line)
+          (ap (λ (cut : Cut (Lent ℕ)). cut.0) none-there));
       sending = same-at-first before;
     }
 
@@ -48,6 +52,12 @@ loop-place-preserved c =
       whole = ap (λ (cut : Cut (Lent ℕ)). cut.1) more;
       come = subst (λ (ms : List (Lent ℕ)). HaveCome before.port group joined ms (at before.requests) (at new.requests)
           before.multicast new.multicast before.unasked new.unasked) (sym (ap (λ (cut : Cut (Lent ℕ)). cut.0) more)) come;
+      line = line-more before.port group (messages_of front) m (at before.requests) (at now.requests) before.requests.line
+          now.requests.line new.requests.line inv.come.requests inv.line
+          (c.in-Ok-take_in.ensures.line
+          ∙ ap (λ (p : ℕ). line_after p group m (at now.requests) now.requests.line) inv.sending.0.1)
+          ∙ ap (λ (ms : List (Lent ℕ)). line_after_all before.port group ms (at before.requests) before.requests.line)
+          (sym (ap (λ (cut : Cut (Lent ℕ)). cut.0) more));
       sending = same-again before now new inv.sending c.take_in.ensures.sending;
     }
 
@@ -75,3 +85,23 @@ returns-in-Ok-lose-clause-faulty c = λ e is.
     subst (λ (ms : List (Lent ℕ)). HaveComeBeforeLoss before.port c.args.group c.args.is_joined ms before.awaited.items
     (at before.requests) (at new.requests) before.multicast new.multicast before.unasked new.unasked)
     (sym (ap (λ (cut : Cut (Lent ℕ)). cut.0) faulty)) come
+
+pub returns-in-Ok-lose-clause-line : goal.returns-in-Ok-lose-clause-line
+returns-in-Ok-lose-clause-line c =
+    let before = c.args.self.now in
+    let now = c.loop-place.self in
+    let inv = c.loop-place.invariant in
+    let port = before.port in
+    let group = c.args.group in
+    let lost = when (change.Lose loss.Datagram) in
+    let awaited = before.awaited.items in
+    let ms = messages_of (take c.loop-place.place c.args.datagram.now) in
+    let rs = λ (q : ℕ). after_all port group ms q (at before.requests q) in
+    let faulty = fault-messages c.args.datagram.now c.loop-place.place c.in_default.field-0 inv.whole
+    c.in_default.ensures.fault in
+    c.in-Ok-lose.ensures.line
+    ∙ ap (λ (xs : List ℕ). line_among xs lost (at now.requests) now.requests.line) (ap (λ v. v.items) inv.sending.2)
+    ∙ among-same awaited lost (at now.requests) rs now.requests.line inv.come.requests
+    ∙ ap (λ (line : List ℕ). line_among awaited lost rs line) inv.line
+    ∙ sym (ap (λ (cut : Cut (Lent ℕ)). line_rest cut.1 awaited (λ q. after_all port group cut.0 q (at before.requests q))
+    (line_after_all port group cut.0 (at before.requests) before.requests.line)) faulty)

@@ -1,5 +1,6 @@
 use Rattle.std.proofs.Common.{◌-◌, ◌≤◌, length, take}
 use Rattle.neli_session.specs.Messages.{IsWhole, messages_of}
+use Rattle.neli_session.specs.Readiness.{line_after_all}
 use Rattle.neli_session.specs.Sends.{SameSending}
 use Rattle.neli_session.specs.Sessions.{HaveCome, at}
 use Rattle.neli_session.proofs.session.Session.receive.Given as goal
@@ -11,6 +12,8 @@ invariant-loop-place l = record {
   whole : IsWhole (take l.place l.datagram);
   come : HaveCome l.fn.self.port l.group l.is_joined (messages_of (take l.place l.datagram)) (at l.fn.self.requests)
       (at l.self.requests) l.fn.self.multicast l.self.multicast l.fn.self.unasked l.self.unasked;
+  line : l.self.requests.line ≡ line_after_all l.fn.self.port l.group (messages_of (take l.place l.datagram))
+      (at l.fn.self.requests) l.fn.self.requests.line;
   sending : SameSending l.fn.self l.self;
 }
 

@@ -1,5 +1,4 @@
-use Rattle.std.proofs.Common.{◌≡◌, ◌+◌, ◌-◌}
-use Rattle.indexmap.specs.IndexMap.{index_map_len}
+use Rattle.std.proofs.Common.{◌≡◌, ◌+◌, ◌-◌, length}
 use Rattle.neli_session.specs.Sends.{SameParcels, SameReaders}
 use Rattle.neli_session.proofs.session.Session.take_number.Given as goal
 
@@ -16,4 +15,4 @@ invariant-loop-tries l = record {
 }
 
 abbrev pub decreases-loop-tries : goal.decreases-loop-tries
-decreases-loop-tries l = index_map_len l.self.requests + 1 - l.tries
+decreases-loop-tries l = length l.self.requests.entries + 1 - l.tries

@@ -1,0 +1,95 @@
+-- A line of numbers, and the links by which it is kept.
+use Rattle.std.specs.Prelude.{◌≡◌, ⊤, ℕ, Bool, true, false, ◌||◌, ◌==◌, nat_eq, if◌then◌else◌, List, [], ◌∷◌, ◌++◌, length}
+use Rattle.std.specs.Prelude.{Option, Some, None, is_some, zero, suc}
+use Rattle.std.specs.Map.{lookup}
+use Rattle.std.specs.Option.{option_map}
+use Rattle.neli_session.specs.declared.line.Link.{Link}
+
+-- the number is one of these
+abbrev pub is_in : ℕ → List ℕ → Bool
+is_in q [] = false
+is_in q (n ∷ ns) = (n == q) || is_in q ns
+
+-- the others
+abbrev pub without : ℕ → List ℕ → List ℕ
+without n [] = []
+without n (m ∷ ms) = if m == n then without n ms else m ∷ without n ms
+
+-- the first and the last, if there is one
+abbrev pub first_in : List ℕ → Option ℕ
+first_in [] = None
+first_in (n ∷ ns) = Some n
+
+abbrev pub last_after : Option ℕ → List ℕ → Option ℕ
+last_after o [] = o
+last_after o (n ∷ ns) = last_after (Some n) ns
+
+abbrev pub last_in : List ℕ → Option ℕ
+last_in ns = last_after None ns
+
+-- no number comes twice
+abbrev pub AreApart : List ℕ → Type 0
+AreApart [] = ⊤
+AreApart (n ∷ ns) = (is_in n ns ≡ false) × AreApart ns
+
+-- ---- how it is kept
+
+-- the link of a number
+abbrev pub link_of : ℕ → List (ℕ × Link) → Option Link
+link_of q links = lookup (nat_eq q) links
+
+-- a number has a place in which its link is written
+abbrev pub has_place : ℕ → List (ℕ × Link) → Bool
+has_place q links = is_some (link_of q links)
+
+-- the links say that these numbers follow one another, after this one if there is one
+abbrev pub AreLinked : List (ℕ × Link) → Option ℕ → List ℕ → Type 0
+AreLinked links before [] = ⊤
+AreLinked links before (n ∷ ns) =
+    (link_of n links ≡ Some (record { before = before; after = first_in ns })) × AreLinked links (Some n) ns
+
+-- links, the first and the last number of a line
+pub record IsLine (links : List (ℕ × Link)) (first last : Option ℕ) (ns : List ℕ) : Type 0 where
+  pub linked : AreLinked links None ns
+  pub first_is : first ≡ first_in ns
+  pub last_is : last ≡ last_in ns
+  pub apart : AreApart ns
+
+-- the number that follows by its link
+abbrev pub next_by : Option Link → Option ℕ
+next_by None = None
+next_by (Some l) = l.after
+
+-- the line that begins with this number, of so many numbers at most
+abbrev pub walk : List (ℕ × Link) → ℕ → Option ℕ → List ℕ
+walk links zero o = []
+walk links (suc k) None = []
+walk links (suc k) (Some n) = n ∷ walk links k (next_by (link_of n links))
+
+-- what a line is: its numbers in order, and the places
+pub record Standing : Type 0 where
+  pub order : List ℕ
+  pub places : List (ℕ × Link)
+
+-- ---- what its calls do to the links
+
+-- another number follows it, or it follows another
+abbrev pub with_after : Option ℕ → Link → Link
+with_after o l = record l { after = o }
+
+abbrev pub with_before : Option ℕ → Link → Link
+with_before o l = record l { before = o }
+
+-- of the number n that is changed so, if it has a place
+abbrev pub link_at : ℕ → (Link → Link) → ℕ → Option Link → Option Link
+link_at n f q o = if n == q then option_map f o else o
+
+-- the same of a number, if there is one
+abbrev pub link_if : Option ℕ → (Link → Link) → ℕ → Option Link → Option Link
+link_if None f q o = o
+link_if (Some n) f q o = link_at n f q o
+
+-- the end of a line, where this number beside it, if there is one, is another
+abbrev pub end_with : Option ℕ → Option ℕ → Option ℕ → Option ℕ
+end_with None o end = o
+end_with (Some n) o end = end
