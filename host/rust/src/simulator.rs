@@ -39,12 +39,14 @@
 
 use crate::consts::nl::NlmF;
 use crate::err::{DeError, SerError, SocketError, done, refused};
+use crate::errno::Errno;
 use crate::ffi::{self, kernel};
 use crate::link::{Arrived, Link};
 use crate::nl::NlType;
 use crate::{FromBytes, ToBytes};
 use std::collections::VecDeque;
 use std::fmt;
+use std::io;
 use std::sync::{Mutex, MutexGuard, PoisonError};
 
 /// The bytes that a call writes: it is made again where they had no room.
@@ -268,7 +270,8 @@ pub struct Datagram {
 }
 
 /// A kernel that serves the requests of one socket by a function of yours, which gives the datagrams of each answer. It
-/// keeps them until they are received, and may be shared by threads.
+/// keeps them until they are received, and may be shared by threads. Trouble of a link is made by
+/// [`fault`](Kernel::fault), and by datagrams that the function leaves out, cuts or gives twice.
 pub struct Kernel<F> {
     port: u32,
     inner: Mutex<Inner<F>>,
@@ -276,8 +279,11 @@ pub struct Kernel<F> {
 
 struct Inner<F> {
     serve: F,
-    waiting: VecDeque<Datagram>,
+    waiting: VecDeque<Came>,
 }
+
+/// What is received next: a datagram, or the number of a fault.
+type Came = Result<Datagram, Errno>;
 
 impl<F> fmt::Debug for Kernel<F> {
     fn fmt(&self, f: &mut fmt::Formatter<'_>) -> fmt::Result {
@@ -298,14 +304,24 @@ impl<F> Kernel<F> {
         self.port
     }
 
-    /// The next datagram; none where nothing waits.
+    /// The next datagram, past faults; none where nothing waits.
     pub fn receive(&self) -> Option<Datagram> {
-        self.inner().waiting.pop_front()
+        std::iter::from_fn(|| self.inner().waiting.pop_front()).find_map(Came::ok)
     }
 
     /// Has a datagram come to a group, as [`notification`] makes one.
     pub fn notify(&self, group: u32, bytes: Vec<u8>) {
-        self.inner().waiting.push_back(Datagram { group, bytes });
+        self.inner().waiting.push_back(Ok(Datagram { group, bytes }));
+    }
+
+    /// Has a receive of the socket fail once, behind what waits, as by `ENOBUFS` (105) where its buffer ran over.
+    pub fn fault(&self, number: impl Into<Errno>) {
+        self.inner().waiting.push_back(Err(number.into()));
+    }
+
+    /// Drops what waits, as where the buffer has run over.
+    pub fn lose(&self) {
+        self.inner().waiting.clear();
     }
 }
 
@@ -321,7 +337,7 @@ impl<F: FnMut(&Request<'_>) -> Result<Vec<Vec<u8>>, SerError>> Kernel<F> {
         let mut inner = self.inner();
         for request in requests(sent, self.port) {
             let answers = (inner.serve)(&request?)?;
-            inner.waiting.extend(answers.into_iter().map(|bytes| Datagram { group: 0, bytes }));
+            inner.waiting.extend(answers.into_iter().map(|bytes| Ok(Datagram { group: 0, bytes })));
         }
         Ok(())
     }
@@ -338,6 +354,9 @@ impl<F: FnMut(&Request<'_>) -> Result<Vec<Vec<u8>>, SerError> + Send> Link for K
     }
 
     fn receive(&self, room: &mut Vec<u8>) -> Result<Option<Arrived>, SocketError> {
-        Ok(Kernel::receive(self).map(|it| Arrived::into_room(room, &it.bytes, it.group)))
+        match self.inner().waiting.pop_front() {
+            Some(Err(it)) => Err(io::Error::from_raw_os_error(it.number()).into()),
+            came => Ok(came.and_then(Came::ok).map(|it| Arrived::into_room(room, &it.bytes, it.group))),
+        }
     }
 }

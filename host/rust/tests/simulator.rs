@@ -2,12 +2,13 @@
 
 use neli::consts::nl::{NlmF, Nlmsg, NlmsgerrAttr};
 use neli::consts::rtnl::Rtm;
-use neli::err::{DeError, Refusal, SerError, SocketError};
+use neli::err::{DeError, Refusal, RouterError, SerError, SocketError};
 use neli::genl::{AttrTypeBuilder, NlattrBuilder};
 use neli::nl::NlPayload;
-use neli::router::synchronous::{Lists, NlRouter};
+use neli::router::synchronous::{Lists, Loss, Missed, NlRouter, NlRouterReceiverHandle, Notice, Verdict};
 use neli::simulator::{Datagram, Kernel, Request, notification, requests};
 use neli::types::{Buffer, GenlBuffer};
+use std::sync::{Arc, Mutex};
 
 /// RTM_GETLINK (18) with REQUEST, ACK and DUMP, the number 7, and four bytes.
 const DUMP: [u8; 20] = [20, 0, 0, 0, 18, 0, 5, 3, 7, 0, 0, 0, 0, 0, 0, 0, 1, 2, 3, 4];
@@ -112,6 +113,67 @@ fn lists_of_a_state_are_requested_again_together() {
     assert_eq!(state(2, [18, 22]).expect("it is no more"), [1, 1]);
     assert_eq!(state(5, [18, 26]).expect_err("it is refused each time").errno(), Some(95));
     assert_eq!(count, 4);
+}
+
+/// A client that lists and listens, and lists again after a loss: its picture is the kernel's state.
+#[test]
+fn a_client_recovers_from_a_loss() {
+    let state = Arc::new(Mutex::new(vec![1u32]));
+    let serves = Arc::clone(&state);
+    let kernel = Kernel::new(7, move |request: &Request<'_>| {
+        let mut dump = request.dump(8192)?;
+        for it in serves.lock().expect("a lock").iter() {
+            dump.push(Rtm::Newlink, NlmF::empty(), it)?;
+        }
+        dump.finish(NlmF::empty(), 0, &())
+    });
+    let (router, mut multicast) = NlRouter::over(kernel).expect("a router");
+    let add = |it: u32| {
+        state.lock().expect("a lock").push(it);
+        router.link().notify(1, notification(Rtm::Newlink, NlmF::empty(), 0, 0, &it).expect("a notification"));
+    };
+    let listed = |multicast: &mut NlRouterReceiverHandle<u16, Buffer>| -> Vec<u32> {
+        let links = multicast.resync::<_, Buffer, Rtm, u32>(Rtm::Getlink, NlPayload::Empty, 3).expect("a list");
+        links.iter().filter_map(|it| it.get_payload().copied()).collect()
+    };
+    let mut picture = listed(&mut multicast);
+    add(2);
+    add(3);
+    router.link().lose();
+    router.link().fault(105);
+    add(4);
+    let mut losses = 0;
+    loop {
+        match multicast.listen::<Rtm, u32>() {
+            Ok(Notice::Message(news)) => picture.extend(news.get_payload()),
+            Ok(Notice::Missed(Missed::Overrun)) => {
+                losses += 1;
+                picture = listed(&mut multicast);
+                add(5);
+            }
+            Err(RouterError::Socket(SocketError::Ended)) => break,
+            other => panic!("{other:?}"),
+        }
+    }
+    assert_eq!((losses, &picture, &*state.lock().expect("a lock")), (1, &vec![1, 2, 3, 4, 5], &vec![1, 2, 3, 4, 5]));
+}
+
+/// Each open request is told of a fault, once, in its place; and the kernel's own calls go past it.
+#[test]
+fn a_fault_is_told_in_its_place() {
+    let kernel = Kernel::new(7, |request: &Request<'_>| Ok(vec![request.acknowledgement(&())?]));
+    kernel.fault(105);
+    kernel.notify(1, vec![1]);
+    kernel.fault(5);
+    assert_eq!(kernel.receive(), Some(Datagram { group: 1, bytes: vec![1] }));
+    assert_eq!(kernel.receive(), None);
+    let (router, _multicast) = NlRouter::over(kernel).expect("a router");
+    router.link().fault(5);
+    let mut replies = router.send::<_, Buffer, u16, Buffer>(20u16, NlmF::ACK, NlPayload::Empty).expect("it is sent");
+    let error = replies.next().expect("a reply").expect_err("the fault");
+    assert!(matches!(error, RouterError::Socket(SocketError::Io(it)) if it.raw_os_error() == Some(5)));
+    assert!(replies.next().is_none());
+    assert_eq!(replies.verdict(), Verdict::Lost(Loss::Link));
 }
 
 #[test]
