@@ -119,7 +119,9 @@ struct neli_answer {
 #define NELI_ANSWER_MISSING 5
 #define NELI_ANSWER_MISSING_NEST 6
 
-/* A writing position: the message that was begun last is at `start`, and the next byte goes to `end`. */
+/* A writing position: the message that was begun last is at `start`, and the next byte goes to `end`. It begins as
+ * {0, 0}, or as {n, n} behind n bytes. What is put before a message is begun belongs to a body, as that of
+ * neli_host_send, or to a list of attributes: `start` is SIZE_MAX then. */
 struct neli_writer {
     size_t start, end;
 };
@@ -629,7 +631,7 @@ static inline int32_t neli_begin_nest(uint8_t *out, size_t room, struct neli_wri
 }
 
 /* Sets the length of a nest to the bytes written since it was begun; NELI_LENGTH if that exceeds 65535 bytes,
- * NELI_PLACE if no nest of the message that was begun last can lie there. */
+ * NELI_PLACE if no nest of the message that was begun last can lie there, or of the body if none was begun. */
 static inline int32_t neli_end_nest(uint8_t *out, size_t room, const struct neli_writer *writer, size_t nest) {
     if (!neli_is_slice(out, room) || writer == NULL) return NELI_NULL;
     return neli_c_end_nest(neli_write_at(out), room, writer, nest);

@@ -116,6 +116,40 @@ static void a_refusal_with_text_and_offset(void) {
     neli_host_close(host);
 }
 
+/* A nest may be the first that stands in a body, and its header shorter than that of a message. */
+static void a_route_whose_body_begins_with_a_nest(void) {
+    struct neli_host *host = route_host(false);
+    struct rtmsg route = {.rtm_family = AF_INET, .rtm_dst_len = 24, .rtm_table = RT_TABLE_MAIN,
+                          .rtm_protocol = RTPROT_STATIC, .rtm_type = RTN_UNICAST};
+    const uint8_t to[4] = {203, 0, 113, 0};
+    struct body body = {0};
+    struct neli_message message;
+    struct neli_attribute found;
+    struct neli_walk walk;
+    uint32_t mtu = 0;
+    set_loopback(host, true);
+    put(&body, &route, sizeof route);
+    size_t metrics = begin_nest(&body, RTA_METRICS);
+    WANT(metrics == sizeof route && metrics < 16);
+    WANT(neli_put_u32(body.bytes, sizeof body.bytes, &body.writer, RTAX_MTU, 1300) == NELI_OK);
+    end_nest(&body, metrics);
+    put_attribute(&body, RTA_DST, to, sizeof to);
+    WANT(neli_put_u32(body.bytes, sizeof body.bytes, &body.writer, RTA_OIF, 1) == NELI_OK);
+    done(host, RTM_NEWROUTE, NLM_F_CREATE | NLM_F_EXCL, body);
+    size_t all = 0;
+    route = (struct rtmsg){.rtm_family = AF_INET};
+    WANT(neli_host_send(host, RTM_GETROUTE, NLM_F_DUMP, &route, sizeof route, &all) == NELI_OK);
+    while (neli_host_next(host, all, &message) == NELI_ITEM) {
+        if (message.type != RTM_NEWROUTE) continue;
+        WANT(neli_attributes_of(&message, sizeof route, &walk) == NELI_OK);
+        if (!neli_host_find(host, &walk, RTA_METRICS, &found)) continue;
+        WANT(neli_attributes_in(&found, &walk) == NELI_OK && neli_host_find(host, &walk, RTAX_MTU, &found));
+        WANT(neli_get_u32(neli_host_item(host) + found.payload, found.payload_length, 0, &mtu) == NELI_OK);
+    }
+    WANT(mtu == 1300);
+    neli_host_close(host);
+}
+
 static void a_notification_while_a_dump_runs(void) {
     struct neli_host *other = route_host(false), *host = route_host(true);
     struct neli_message message;
@@ -358,6 +392,7 @@ static const struct test tests[] = {
     {"a_dump_of_many_datagrams", a_dump_of_many_datagrams},
     {"two_requests_in_the_other_order", two_requests_in_the_other_order},
     {"a_refusal_with_text_and_offset", a_refusal_with_text_and_offset},
+    {"a_route_whose_body_begins_with_a_nest", a_route_whose_body_begins_with_a_nest},
     {"a_notification_while_a_dump_runs", a_notification_while_a_dump_runs},
     {"a_buffer_that_ran_over", a_buffer_that_ran_over},
     {"another_sender_is_passed_over", another_sender_is_passed_over},

@@ -140,16 +140,19 @@ static void try_places(const uint8_t *bytes, size_t length, struct script script
     WANT((neli_find_attribute(bytes, length, &before, 1, &attribute) == NELI_PLACE) == !is_within);
 }
 
-/* A message is written by a script, and beside it by the model. */
+/* A message, or a body without one, is written by a script, and beside it by the model. */
 static void try_writing(struct script script) {
     static uint8_t model[ROOM];
-    size_t room = next_byte(&script) * 4u, nest = 0, end = 16, nest_at = 0;
+    bool is_body = next_byte(&script) % 2 == 1, has_nest = false;
+    size_t room = next_byte(&script) * 4u, nest = 0, end = is_body ? 0 : 16, nest_at = 0;
     uint8_t *to = out + ROOM - room;
     struct neli_writer writer = {0};
     memset(to, 0xaa, room);
-    WANT(neli_begin_message(to, room, &writer, 18, 5, 7, 9) == (room < 16 ? NELI_ROOM : NELI_OK));
-    if (room < 16) return;
-    memcpy(model, "\0\0\0\0\x12\0\5\0\7\0\0\0\x9\0\0\0", 16);
+    if (!is_body) {
+        WANT(neli_begin_message(to, room, &writer, 18, 5, 7, 9) == (room < 16 ? NELI_ROOM : NELI_OK));
+        if (room < 16) return;
+        memcpy(model, "\0\0\0\0\x12\0\5\0\7\0\0\0\x9\0\0\0", 16);
+    }
     while (script.left > 0) {
         uint8_t what = next_byte(&script), length = next_byte(&script) % 64, type = next_byte(&script);
         bool is_attribute = what % 3 == 1, is_nest = what % 3 == 2;
@@ -165,18 +168,18 @@ static void try_writing(struct script script) {
             model[end + 2] = type;
             model[end + 3] = is_nest ? 0x80 : 0;
         }
-        if (is_nest) nest_at = end, memcpy(model + end, to + end, 2);
+        if (is_nest) has_nest = true, nest_at = end, memcpy(model + end, to + end, 2);
         else memcpy(model + end + (is_attribute ? 4 : 0), in, length);
         end += size;
-        WANT(writer.start == 0 && writer.end == end);
+        WANT(writer.start == (is_body ? SIZE_MAX : 0) && writer.end == end);
     }
-    if (nest_at > 0) {
+    if (has_nest) {
         WANT(nest == nest_at && neli_end_nest(to, room, &writer, nest) == NELI_OK);
         model[nest_at] = (uint8_t)(end - nest_at);
         model[nest_at + 1] = (uint8_t)((end - nest_at) >> 8);
     }
-    WANT(neli_end_message(to, room, &writer) == NELI_OK);
-    memcpy(model, &(uint32_t){(uint32_t)end}, 4);
+    WANT(neli_end_message(to, room, &writer) == (is_body ? NELI_PLACE : NELI_OK));
+    if (!is_body) memcpy(model, &(uint32_t){(uint32_t)end}, 4);
     WANT(memcmp(model, to, end) == 0);
     for (size_t i = end; i < room; i++) WANT(to[i] == 0xaa);
 }

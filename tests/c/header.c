@@ -85,6 +85,39 @@ static void check_writing_and_reading(void) {
     CHECK(neli_get_u32(out + attribute.payload, attribute.payload_length, 0, &number) == NELI_OK && number == 1500);
 }
 
+/* Bodies without a message: with no header, with one of generic netlink, behind other bytes, and behind a list; and
+ * nests that lie nowhere. By linux/netlink.h, by hand. */
+static void check_bodies(void) {
+    const uint8_t header[4] = {3, 2, 0, 0};
+    const uint8_t list[16] = {16, 0, 8, 0x80, 12, 0, 1, 0x80, 8, 0, 2, 0, 7, 0, 0, 0};
+    for (size_t front = 0; front < 20; front += 4) {
+        uint8_t out[64] = {0};
+        struct neli_writer writer = {0, 0};
+        size_t outer, inner;
+        for (size_t i = 0; i < front; i += 4) CHECK(neli_put_bytes(out, 64, &writer, header, 4) == NELI_OK);
+        CHECK(neli_begin_nest(out, 64, &writer, 8, &outer) == NELI_OK && outer == front);
+        CHECK(writer.start == SIZE_MAX && writer.end == front + 4);
+        CHECK(neli_begin_nest(out, 64, &writer, 1, &inner) == NELI_OK && inner == front + 4);
+        CHECK(neli_put_u32(out, 64, &writer, 2, 7) == NELI_OK);
+        CHECK(neli_end_nest(out, 64, &writer, inner) == NELI_OK && neli_end_nest(out, 64, &writer, outer) == NELI_OK);
+        CHECK(writer.end == front + 16 && memcmp(out + front, list, 16) == 0);
+        CHECK(neli_end_nest(out, 64, &writer, front + 13) == NELI_PLACE);
+        CHECK(neli_end_message(out, 64, &writer) == NELI_PLACE);
+        for (size_t i = 0; i < front; i += 4) CHECK(memcmp(out + i, header, 4) == 0);
+    }
+    uint8_t out[64] = {0};
+    struct neli_writer behind = {8, 8}, message = {0, 0};
+    size_t nest;
+    CHECK(neli_put_attribute(out, 9, &behind, 1, "ab", 2) == NELI_ROOM && behind.start == 8 && behind.end == 8);
+    CHECK(neli_begin_nest(out, 64, &behind, 8, &nest) == NELI_OK && nest == 8 && behind.start == SIZE_MAX);
+    CHECK(neli_end_nest(out, 64, &behind, nest) == NELI_OK && out[8] == 4);
+    /* A message that is begun behind a body has its own header. */
+    CHECK(neli_put_bytes(out, 64, &message, header, 4) == NELI_OK);
+    CHECK(neli_begin_message(out, 64, &message, 16, 0, 0, 0) == NELI_OK && message.start == 4);
+    CHECK(neli_begin_nest(out, 64, &message, 8, &nest) == NELI_OK && message.start == 4);
+    CHECK(neli_end_nest(out, 64, &message, 16) == NELI_PLACE && neli_end_nest(out, 64, &message, 20) == NELI_OK);
+}
+
 /* Numbers and a text as attributes: linux/netlink.h, by hand. */
 static void check_typed_puts(void) {
     uint8_t out[96];
@@ -486,6 +519,7 @@ static void check_handles(void) {
 int main(void) {
     check_texts();
     check_writing_and_reading();
+    check_bodies();
     check_typed_puts();
     check_several();
     check_numbers();

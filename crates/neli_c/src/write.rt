@@ -10,7 +10,7 @@ ghost use Rattle.neli_wire.specs.Sizes.{align};
 ghost use Rattle.neli_wire.specs.Writing.{pad_wire};
 ghost use Rattle.neli_c_parts.specs.Codes.{ok, room};
 ghost use Rattle.neli_c_parts.specs.Writes.{attribute_code, header_bytes, message_end_code, nest_end_code, put};
-ghost use Rattle.neli_c_parts.specs.Writes.{put_first};
+ghost use Rattle.neli_c_parts.specs.Writes.{put_first, start_after};
 
 use byteorder::{ByteOrder, LittleEndian};
 use neli_c_parts::code::{LENGTH, OK, PLACE, ROOM};
@@ -23,8 +23,11 @@ const MAX_ATTR_SIZE: usize = 65535;
 /// The flag of a type field for a payload that lists attributes (`NLA_F_NESTED` of `linux/netlink.h`).
 const NESTED: u16 = 0x8000;
 
+/// The start of a writer that has begun no message: what is put belongs to a body, or to a list of attributes.
+const NO_MESSAGE: usize = usize::MAX;
+
 /// A caller's writing position: the message that was begun last, and the end of the written bytes, as places in its
-/// bytes.
+/// bytes. One that starts at its end has begun no message yet, and its first put stores `NO_MESSAGE` as its start.
 #[repr(C)]
 #[derive(Clone, Copy)]
 pub struct NeliWriter {
@@ -75,6 +78,17 @@ pub extern "C" fn neli_c_begin_message(
     OK
 }
 
+/// Where the last begun message is, once bytes are put at the writer's end.
+fn start_after(writer: &NeliWriter) -> usize
+    ensures { result ≡ start_after writer.now.start writer.now.end }
+{
+    if writer.start == writer.end {
+        NO_MESSAGE
+    } else {
+        writer.start
+    }
+}
+
 /// Writes bytes, and zeros up to a multiple of four.
 fn write_padded(out: &mut [u8], bytes: &[u8])
     requires { align (length bytes.now) ≤ length out.old }
@@ -95,8 +109,8 @@ pub extern "C" fn neli_c_put_bytes(out: &mut [u8], writer: &mut NeliWriter, byte
         then ok else room) }
     ensures written { result ≡ ok → IfOk (pad_wire (Ok bytes.now))
         (λ written. out.new ≡ put writer.old.end written out.old) }
-    ensures moved { result ≡ ok
-        → writer.new ≡ record writer.old { end = writer.old.end + align (length bytes.now) } }
+    ensures moved { result ≡ ok → writer.new ≡ record {
+        start = start_after writer.old.start writer.old.end; end = writer.old.end + align (length bytes.now) } }
     ensures unchanged { result ≢ ok → (out.new ≡ out.old) × (writer.new ≡ writer.old) }
 {
     let start = writer.end;
@@ -105,7 +119,10 @@ pub extern "C" fn neli_c_put_bytes(out: &mut [u8], writer: &mut NeliWriter, byte
         return ROOM;
     }
     write_padded(&mut out[start..], bytes);
-    writer.end = start + size;
+    *writer = NeliWriter {
+        start: start_after(writer),
+        end: start + size,
+    };
     OK
 }
 
@@ -136,8 +153,8 @@ fn append(out: &mut [u8], writer: &mut NeliWriter, nl_type: u16, payload: &[u8])
     ensures written { result ≡ ok
         → IfOk (attribute_wire (4 + length payload.now) nl_type (Ok payload.now))
         (λ written. out.new ≡ put writer.old.end written out.old) }
-    ensures moved { result ≡ ok
-        → writer.new ≡ record writer.old { end = writer.old.end + align (4 + length payload.now) } }
+    ensures moved { result ≡ ok → writer.new ≡ record { start = start_after writer.old.start writer.old.end;
+        end = writer.old.end + align (4 + length payload.now) } }
     ensures unchanged { result ≢ ok → (out.new ≡ out.old) × (writer.new ≡ writer.old) }
 {
     if MAX_ATTR_SIZE - ATTRIBUTE_HEADER_SIZE < payload.len() {
@@ -149,7 +166,10 @@ fn append(out: &mut [u8], writer: &mut NeliWriter, nl_type: u16, payload: &[u8])
         return ROOM;
     }
     write_attribute(&mut out[start..], nl_type, payload);
-    writer.end = start + size;
+    *writer = NeliWriter {
+        start: start_after(writer),
+        end: start + size,
+    };
     OK
 }
 
@@ -168,8 +188,8 @@ pub extern "C" fn neli_c_put_attribute(
     ensures written { result ≡ ok
         → IfOk (attribute_wire (4 + length payload.now) nl_type (Ok payload.now))
         (λ written. out.new ≡ put writer.old.end written out.old) }
-    ensures moved { result ≡ ok
-        → writer.new ≡ record writer.old { end = writer.old.end + align (4 + length payload.now) } }
+    ensures moved { result ≡ ok → writer.new ≡ record { start = start_after writer.old.start writer.old.end;
+        end = writer.old.end + align (4 + length payload.now) } }
     ensures unchanged { result ≢ ok → (out.new ≡ out.old) × (writer.new ≡ writer.old) }
 {
     append(out, writer, nl_type, payload)
@@ -189,7 +209,8 @@ pub extern "C" fn neli_c_begin_nest(
     ensures code { result ≡ (if nat_le (writer.old.end + 4) (length out.old) then ok else room) }
     ensures written { result ≡ ok → IfOk (attribute_wire 4 (bit_or nl_type 32768) (Ok []))
         (λ written. out.new ≡ put writer.old.end written out.old) }
-    ensures moved { result ≡ ok → writer.new ≡ record writer.old { end = writer.old.end + 4 } }
+    ensures moved { result ≡ ok → writer.new ≡ record {
+        start = start_after writer.old.start writer.old.end; end = writer.old.end + 4 } }
     ensures nest { result ≡ ok → nest.new ≡ writer.old.end }
     ensures unchanged { result ≢ ok
         → (out.new ≡ out.old) × (writer.new ≡ writer.old) × (nest.new ≡ nest.old) }
@@ -204,9 +225,9 @@ pub extern "C" fn neli_c_begin_nest(
 
 /// Sets the length of the nest that was begun at this place to the bytes written since.
 ///
-/// Returns `OK`; `PLACE` if no nest can lie there: before the end of the last begun message's header, or less than four
-/// bytes before the writer's end, or if that is past the bytes; then `LENGTH` if the length exceeds 16 bits. On a
-/// refusal nothing is written.
+/// Returns `OK`; `PLACE` if no nest can lie there: before the end of the last begun message's header, where one was
+/// begun, or less than four bytes before the writer's end, or if that is past the bytes; then `LENGTH` if the length
+/// exceeds 16 bits. On a refusal nothing is written.
 #[unsafe(no_mangle)]
 pub extern "C" fn neli_c_end_nest(out: &mut [u8], writer: &NeliWriter, nest: usize) -> i32
     ensures code { result ≡ nest_end_code writer.now.start writer.now.end nest (length out.old) }
@@ -215,7 +236,7 @@ pub extern "C" fn neli_c_end_nest(out: &mut [u8], writer: &NeliWriter, nest: usi
     ensures unchanged { result ≢ ok → out.new ≡ out.old }
 {
     let NeliWriter { start, end } = *writer;
-    if nest < MESSAGE_HEADER_SIZE || nest - MESSAGE_HEADER_SIZE < start {
+    if start != NO_MESSAGE && (nest < MESSAGE_HEADER_SIZE || nest - MESSAGE_HEADER_SIZE < start) {
         return PLACE;
     }
     if end < ATTRIBUTE_HEADER_SIZE || end - ATTRIBUTE_HEADER_SIZE < nest || out.len() < end {
