@@ -378,6 +378,7 @@ int32_t neli_c_tables_built_in(struct neli_tables *tables);
 int32_t neli_c_tables_free(struct neli_tables *tables);
 int32_t neli_c_tables_add(struct neli_tables *tables, const uint8_t *text, size_t text_length, size_t *line,
                           uint8_t *out, size_t room, size_t *length);
+int32_t neli_c_tables_add_built_in(struct neli_tables *tables, const uint8_t *name, size_t name_length);
 int32_t neli_c_tables_learn(struct neli_tables *tables, uint16_t id, const uint8_t *name, size_t name_length);
 int32_t neli_c_tables_learn_from(struct neli_tables *tables, uint16_t protocol, const uint8_t *bytes, size_t length,
                                  const struct neli_message *message);
@@ -392,6 +393,13 @@ int32_t neli_c_datagram_json(struct neli_tables *tables, uint16_t protocol, cons
 int32_t neli_c_named_items(struct neli_tables *tables, uint16_t protocol, const uint8_t *bytes, size_t length,
                            const struct neli_message *message, struct neli_named *items, size_t item_room,
                            size_t *count, uint8_t *out, size_t room, size_t *size);
+int32_t neli_c_number_of(struct neli_tables *tables, const uint8_t *family, size_t family_length, const uint8_t *list,
+                         size_t list_length, const uint8_t *name, size_t name_length, uint64_t *number);
+int32_t neli_c_name_of(struct neli_tables *tables, const uint8_t *family, size_t family_length, const uint8_t *list,
+                       size_t list_length, uint64_t number, uint8_t *out, size_t room, size_t *size);
+int32_t neli_c_message_name(struct neli_tables *tables, uint16_t protocol, const uint8_t *bytes, size_t length,
+                            const struct neli_message *message, uint8_t *out, size_t room, size_t *size);
+int32_t neli_c_errno_name(int32_t error, uint8_t *out, size_t room, size_t *text_length);
 int32_t neli_c_check(struct neli_tables *tables, uint16_t protocol, const uint8_t *bytes, size_t length,
                      const struct neli_message *message, uint8_t *out, size_t room, size_t *size);
 int32_t neli_c_path_at(struct neli_tables *tables, uint16_t protocol, const uint8_t *bytes, size_t length,
@@ -426,6 +434,15 @@ static inline int32_t neli_error_text(int32_t code, char *text, size_t room) {
     size_t length = 0;
     if (text == NULL || room > PTRDIFF_MAX) return NELI_NULL;
     return neli_c_error_text(code, (uint8_t *)text, room, &length);
+}
+
+/* Writes the name of an error number of Linux, above or below 0, as EINVAL of 22 and of -22, with a zero byte:
+ * NELI_ITEM, or NELI_END if the number has no name; NELI_ROOM if it is longer than the room. NELI_TEXT_SIZE bytes
+ * suffice. NELI_NULL if `name` is null, whatever the room. Its meaning is strerror(3)'s. */
+static inline int32_t neli_errno_name(int32_t error, char *name, size_t room) {
+    size_t length = 0;
+    if (name == NULL || room > PTRDIFF_MAX) return NELI_NULL;
+    return neli_c_errno_name(error, (uint8_t *)name, room, &length);
 }
 
 /* ---- Reading by slices: no memory is taken ---- */
@@ -1158,6 +1175,14 @@ static inline int32_t neli_tables_add(struct neli_tables *tables, const void *te
                              neli_write_at((uint8_t *)reason), room, length);
 }
 
+/* Adds the table of one family that the library has, behind the others, in a small part of the time that
+ * neli_tables_built_in takes: by the name of its text, as `rt_link` or `ethtool`, of those that docs/TABLES.md lists.
+ * NELI_KIND if none has the name, and NELI_TABLE if the text cannot be read; then nothing is added. */
+static inline int32_t neli_tables_add_built_in(struct neli_tables *tables, const char *name) {
+    if (tables == NULL || name == NULL) return NELI_NULL;
+    return neli_c_tables_add_built_in(tables, (const uint8_t *)name, strlen(name));
+}
+
 /* Learns that the family of generic netlink with this name has this number, as the kernel gives it. */
 static inline int32_t neli_tables_learn(struct neli_tables *tables, uint16_t id, const void *name,
                                         size_t name_length) {
@@ -1217,8 +1242,8 @@ static inline int32_t neli_datagram_json(struct neli_tables *tables, uint16_t pr
  * the message's own. `count` is how many items there are, and `size` how many bytes their texts have: NELI_OK if both
  * had room. NELI_ROOM if not: the first items are stored that had, and the beginning of the texts; a second call with
  * this room has it all. `item_room` counts items. No zero byte ends a text. The time is that of one walk, however many
- * items there are. NELI_KIND if no table has the attributes of such a message, NELI_PLACE if its payload is past the
- * bytes; then nothing is stored. */
+ * items there are. NELI_KIND if no table has the attributes of such a message, NELI_SHORT if its body is shorter than
+ * the structure before them, NELI_PLACE if its payload is past the bytes; then nothing is stored. */
 static inline int32_t neli_named_items(struct neli_tables *tables, uint16_t protocol, const uint8_t *bytes,
                                        size_t length, const struct neli_message *message, struct neli_named *items,
                                        size_t item_room, size_t *count, char *text, size_t room, size_t *size) {
@@ -1228,6 +1253,43 @@ static inline int32_t neli_named_items(struct neli_tables *tables, uint16_t prot
     if (!neli_is_slice(text, room) || size == NULL) return NELI_NULL;
     return neli_c_named_items(tables, protocol, neli_read_at(bytes), length, message, items != NULL ? items : none,
                               item_room, count, neli_write_at((uint8_t *)text), room, size);
+}
+
+/* Stores the number of a name in the first table whose family has this name, as `rt-link` or `ethtool`: of the first row
+ * with it in the first list of that name, a set of attributes, an enum, flags, a choice, or a structure, whose fields
+ * have the place of their first byte; or where `list` is null or empty of the first message or group of the family, as
+ * RTM_NEWLINK. NELI_ITEM, or NELI_END if there is none. */
+static inline int32_t neli_number_of(struct neli_tables *tables, const char *family, const char *list,
+                                     const char *name, uint64_t *number) {
+    if (tables == NULL || family == NULL || name == NULL || number == NULL) return NELI_NULL;
+    if (list == NULL) list = "";
+    return neli_c_number_of(tables, (const uint8_t *)family, strlen(family), (const uint8_t *)list, strlen(list),
+                            (const uint8_t *)name, strlen(name), number);
+}
+
+/* Writes the name of a number in such a table: of the first row with it in the list; or where `list` is null or empty of
+ * the message that goes to the kernel, of generic netlink the command. NELI_ITEM, or NELI_END if there is none. No zero
+ * byte ends it.
+ *
+ * NELI_ITEM is returned also if the name does not fit: `out` has its beginning, and `size` is how long the whole is.
+ * Without NELI_ITEM `size` is as it was. */
+static inline int32_t neli_name_of(struct neli_tables *tables, const char *family, const char *list, uint64_t number,
+                                   char *out, size_t room, size_t *size) {
+    if (tables == NULL || family == NULL || !neli_is_slice(out, room) || size == NULL) return NELI_NULL;
+    if (list == NULL) list = "";
+    return neli_c_name_of(tables, (const uint8_t *)family, strlen(family), (const uint8_t *)list, strlen(list), number,
+                          neli_write_at((uint8_t *)out), room, size);
+}
+
+/* Writes the name of a message's line, as RTM_NEWLINK or ETHTOOL_MSG_RINGS_GET, by its way, its type, and what its body
+ * begins with; as neli_name_of. NELI_PLACE if its payload is past the bytes. */
+static inline int32_t neli_message_name(struct neli_tables *tables, uint16_t protocol, const uint8_t *bytes,
+                                        size_t length, const struct neli_message *message, char *out, size_t room,
+                                        size_t *size) {
+    if (tables == NULL || !neli_is_slice(bytes, length) || message == NULL) return NELI_NULL;
+    if (!neli_is_slice(out, room) || size == NULL) return NELI_NULL;
+    return neli_c_message_name(tables, protocol, neli_read_at(bytes), length, message, neli_write_at((uint8_t *)out),
+                               room, size);
 }
 
 /* Checks that a message's attributes are as their rows say, as those of a request before it is sent: NELI_OK, or

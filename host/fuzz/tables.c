@@ -136,7 +136,7 @@ static void try_items(struct neli_tables *tables, uint16_t protocol, const uint8
     size_t count = 0, size = 0, few, short_size;
     char *text = (char *)out;
     int32_t code = neli_named_items(tables, protocol, bytes, length, &message, items, ROOM, &count, text, ROOM, &size);
-    if (code == NELI_KIND) return;
+    if (code == NELI_KIND || code == NELI_SHORT) return;
     WANT(code == (size <= ROOM ? NELI_OK : NELI_ROOM) && count < ROOM);
     want_items(items, count, text, bytes, length);
     size_t whole = size < ROOM ? size : ROOM, cut = message.number % (whole + 1), room = message.port % (count + 1);
@@ -147,6 +147,22 @@ static void try_items(struct neli_tables *tables, uint16_t protocol, const uint8
     WANT(memcmp(text, model, cut) == 0);
     for (size_t i = 0; i < room; i++)
         WANT(some[i].payload == items[i].payload && some[i].path == items[i].path && some[i].kind == items[i].kind);
+}
+
+/* The name of a message, in a room of two sizes; and what names and numbers are found by its bytes. */
+static void try_name(struct neli_tables *tables, uint16_t protocol, const uint8_t *bytes, size_t length) {
+    char name[65] = {0}, family[65] = {0};
+    uint64_t number = 4711;
+    size_t size = 0, again = 0;
+    int32_t code = neli_message_name(tables, protocol, bytes, length, &message, name, 64, &size);
+    WANT((code == NELI_END && size == 0) || (code == NELI_ITEM && size > 0));
+    size_t half = size < 128 ? size / 2 : 64;
+    WANT(neli_message_name(tables, protocol, bytes, length, &message, name, half, &again) == code && again == size);
+    memcpy(family, bytes, length < 64 ? length : 64);
+    code = neli_number_of(tables, family, NULL, name, &number);
+    WANT(code == NELI_ITEM || (code == NELI_END && number == 4711));
+    code = neli_name_of(tables, family, family, message.number, name, 64, &size);
+    WANT(code == NELI_ITEM || code == NELI_END);
 }
 
 static void try_message(struct neli_tables *tables, uint16_t protocol, const uint8_t *bytes, size_t length) {
@@ -160,6 +176,7 @@ static void try_message(struct neli_tables *tables, uint16_t protocol, const uin
     WANT(code == NELI_OK || (code == NELI_VIOLATION && size > 2));
     code = neli_path_at(tables, protocol, bytes, length, &message, message.port % 256, (char *)out, ROOM, &size);
     WANT(code == NELI_END || (code == NELI_ITEM && size > 0));
+    try_name(tables, protocol, bytes, length);
     WANT(neli_tables_learn_from(tables, protocol, bytes, length, &message) == NELI_OK);
     struct neli_message past = message;
     past.payload_length = length;

@@ -55,6 +55,10 @@ def _library():
         "neli_c_message_json": [*message, *room],
         "neli_c_datagram_text": [pointer, u16, *slice_of, *room],
         "neli_c_datagram_json": [pointer, u16, *slice_of, *room],
+        "neli_c_tables_add_built_in": [pointer, *slice_of],
+        "neli_c_number_of": [pointer, *slice_of, *slice_of, *slice_of, pointer],
+        "neli_c_name_of": [pointer, *slice_of, *slice_of, ctypes.c_uint64, *room],
+        "neli_c_message_name": [*message, *room],
         "neli_c_named_items": [*message, pointer, size, pointer, *room],
         "neli_c_check": [*message, *room],
         "neli_c_path_at": [*message, size, *room],
@@ -103,6 +107,13 @@ def _done(code):
         raise neli.NetlinkError(0, "the schema is closed" if code == STATE else neli._text_of(code), code)
 
 
+def _found(code):
+    """Whether a look-up found something."""
+    if code != ITEM:
+        _done(code)
+    return code == ITEM
+
+
 class Schema:
     """Tables of families: those that the library has, unless `built_in` is false, and those of these texts.
 
@@ -142,6 +153,45 @@ class Schema:
         if code == TABLE:
             raise TableError(line.value, reason)
         _done(code)
+
+    def add_built_in(self, name: str | bytes) -> None:
+        """Adds the table of one family that the library has, as "rt_link" (docs/TABLES.md), behind the others.
+
+        A ValueError if none has the name. With `built_in=False` a Schema is open in a part of the time.
+        """
+        name = _encoded("name", name)
+        code = _lib.neli_c_tables_add_built_in(ctypes.byref(self._tables), name, len(name))
+        if code == KIND:
+            raise ValueError(f"no table has the name {os.fsdecode(name)!r}")
+        _done(code)
+
+    def number_of(self, family: str | bytes, name: str | bytes, list_name: str | bytes = "") -> int | None:
+        """The number of a name in the table of a family, as of "RTM_NEWLINK" in "rt-link"; None if it has none.
+
+        It is that of a message or a group; or with a list, of a row of that: of an attribute in a set, a value in an
+        enum or in flags, or the place of a field in a structure.
+        """
+        words, number = self._texts_of(family=family, list_name=list_name, name=name), ctypes.c_uint64()
+        return number.value if _found(_lib.neli_c_number_of(*words, ctypes.byref(number))) else None
+
+    def name_of(self, family: str | bytes, number: int, list_name: str | bytes = "") -> str | None:
+        """The name of a number there: of a message to the kernel, or with a list of a row of that; None if it has none.
+
+        A ValueError if the number does not fit 64 bits.
+        """
+        neli._fit(64, number=number)
+        code, name = _written(_lib.neli_c_name_of, *self._texts_of(family=family, list_name=list_name), number)
+        return name if _found(code) else None
+
+    def message_name(self, message: neli.Message) -> str | None:
+        """The name of a message, of generic netlink that of its command; None if no table has it."""
+        code, name = _written(_lib.neli_c_message_name, *self._words(message))
+        return name if _found(code) else None
+
+    def _texts_of(self, **texts):
+        """The tables, and texts with their lengths."""
+        encoded = [_encoded(name, text) for name, text in texts.items()]
+        return (ctypes.byref(self._tables), *(word for it in encoded for word in (it, len(it))))
 
     def learn(self, number: int, name: str | bytes) -> None:
         """Learns that the family of generic netlink with this name has this number; a ValueError past 16 bits."""
@@ -193,7 +243,8 @@ class Schema:
         """The attributes of a message by name, those in nests behind the nest: `(path, kind, payload, value)` of each.
 
         A path has dots between the names, and `value` is what JSON has of the attribute. Without a table for the
-        message there are none. The message is walked once, so that the time grows with its length.
+        message there are none. A NetlinkError, whose `status` is SHORT, if its body is shorter than the structure
+        before them. The message is walked once, so that the time grows with its length.
         """
         words, items, out = self._words(message), (_Named * 64)(), ctypes.create_string_buffer(4096)
         count, size, data = ctypes.c_size_t(), ctypes.c_size_t(), words[2]

@@ -36,6 +36,18 @@ static void check_texts(void) {
         CHECK(neli_error_text(code, text, sizeof text) == NELI_OK && strcmp(text, "not a code of this library") != 0);
 }
 
+/* asm-generic/errno.h */
+static void check_errors(void) {
+    char name[NELI_TEXT_SIZE];
+    CHECK(neli_errno_name(-22, name, sizeof name) == NELI_ITEM && strcmp(name, "EINVAL") == 0);
+    CHECK(neli_errno_name(105, name, sizeof name) == NELI_ITEM && strcmp(name, "ENOBUFS") == 0);
+    CHECK(neli_errno_name(-131, name, 16) == NELI_ITEM && strcmp(name, "ENOTRECOVERABLE") == 0);
+    CHECK(neli_errno_name(-131, name, 15) == NELI_ROOM && strcmp(name, "ENOTRECOVERABLE") == 0);
+    CHECK(neli_errno_name(0, name, sizeof name) == NELI_END && neli_errno_name(4711, name, sizeof name) == NELI_END);
+    CHECK(neli_errno_name(INT32_MIN, name, 0) == NELI_END && neli_errno_name(1, name, 0) == NELI_ROOM);
+    CHECK(strcmp(name, "ENOTRECOVERABLE") == 0 && neli_errno_name(22, NULL, sizeof name) == NELI_NULL);
+}
+
 /* A link with a name, and in a nest its kind: written, and then read again. */
 static void check_writing_and_reading(void) {
     uint8_t out[128];
@@ -518,6 +530,7 @@ static void check_handles(void) {
 
 int main(void) {
     check_texts();
+    check_errors();
     check_writing_and_reading();
     check_bodies();
     check_typed_puts();

@@ -211,6 +211,129 @@ static void check_rests(void) {
     want_items(route_with_rests, sizeof route_with_rests, of_route, sizeof of_route / sizeof *of_route);
 }
 
+/* ---- Names and numbers */
+
+/* The numbers are those of linux/rtnetlink.h, linux/if_link.h, linux/if_arp.h, net/if.h and linux/ethtool_netlink.h. */
+static void check_numbers(void) {
+    static const struct {
+        const char *family, *list, *name;
+        int32_t code;
+        uint64_t number;
+    } rows[] = {
+        {"rt-link", NULL, "RTM_NEWLINK", NELI_ITEM, 16},
+        {"rt-link", "", "RTM_SETLINK", NELI_ITEM, 19},
+        {"rt-link", NULL, "RTNLGRP_LINK", NELI_ITEM, 1},
+        {"rt-link", "link-attrs", "IFLA_MTU", NELI_ITEM, 4},
+        {"rt-link", "linkinfo-attrs", "IFLA_INFO_KIND", NELI_ITEM, 1},
+        {"rt-link", "ifinfo-flags", "running", NELI_ITEM, 0x40},
+        {"rt-link", "hardware-type", "loopback", NELI_ITEM, 772},
+        {"rt-link", "ifinfomsg", "ifi_index", NELI_ITEM, 4},
+        {"ethtool", NULL, "ETHTOOL_MSG_RINGS_GET", NELI_ITEM, 15},
+        {"ethtool", NULL, "ETHTOOL_MSG_RINGS_GET_REPLY", NELI_ITEM, 16},
+        {"rt-link", NULL, "IFLA_MTU", NELI_END, 0},
+        {"rt-link", "link-attrs", "RTM_NEWLINK", NELI_END, 0},
+        {"rt-link", "link-attrs", "IFLA_MT", NELI_END, 0},
+        {"rt-link", "RTM_NEWLINK", "IFLA_IFNAME", NELI_END, 0},
+        {"rt-link", "nothing", "IFLA_MTU", NELI_END, 0},
+        {"rt_link", NULL, "RTM_NEWLINK", NELI_END, 0},
+        {"", NULL, "RTM_NEWLINK", NELI_END, 0},
+        {"rt-link", NULL, "", NELI_END, 0},
+    };
+    for (size_t i = 0; i < sizeof rows / sizeof *rows; i++) {
+        uint64_t number = 4711;
+        CHECK(neli_number_of(&tables, rows[i].family, rows[i].list, rows[i].name, &number) == rows[i].code);
+        CHECK(number == (rows[i].code == NELI_ITEM ? rows[i].number : 4711));
+    }
+    uint64_t number;
+    CHECK(neli_number_of(NULL, "rt-link", NULL, "RTM_NEWLINK", &number) == NELI_NULL);
+    CHECK(neli_number_of(&tables, NULL, NULL, "RTM_NEWLINK", &number) == NELI_NULL);
+    CHECK(neli_number_of(&tables, "rt-link", NULL, NULL, &number) == NELI_NULL);
+    CHECK(neli_number_of(&tables, "rt-link", NULL, "RTM_NEWLINK", NULL) == NELI_NULL);
+}
+
+/* A name in a room of each size: its beginning, and its length. */
+static void want_name(const char *family, const char *list, uint64_t of, const char *wanted) {
+    char name[64];
+    size_t size = 4711;
+    if (wanted == NULL) {
+        CHECK(neli_name_of(&tables, family, list, of, name, sizeof name, &size) == NELI_END && size == 4711);
+        return;
+    }
+    for (size_t room = 0; room < sizeof name; room++) {
+        size_t kept = room < strlen(wanted) ? room : strlen(wanted);
+        memset(name, '?', sizeof name);
+        CHECK(neli_name_of(&tables, family, list, of, name, room, &size) == NELI_ITEM && size == strlen(wanted));
+        CHECK(memcmp(name, wanted, kept) == 0 && name[kept] == '?');
+    }
+}
+
+static void check_names(void) {
+    char name[64];
+    size_t size = 0;
+    want_name("rt-link", NULL, 18, "RTM_GETLINK");
+    want_name("rt-link", "link-attrs", 18, "IFLA_LINKINFO");
+    want_name("rt-link", "ifinfo-flags", 0x40, "running");
+    want_name("rt-link", "ifinfomsg", 8, "ifi_flags");
+    want_name("ethtool", "", 15, "ETHTOOL_MSG_RINGS_GET");
+    want_name("rt-link", NULL, 1, NULL); /* a group, and no message */
+    want_name("rt-link", "link-attrs", 4000, NULL);
+    want_name("rt-link", "nothing", 18, NULL);
+    want_name("nothing", NULL, 18, NULL);
+    CHECK(neli_name_of(&tables, NULL, NULL, 18, name, 64, &size) == NELI_NULL);
+    CHECK(neli_name_of(&tables, "rt-link", NULL, 18, NULL, 64, &size) == NELI_NULL);
+    CHECK(neli_name_of(&tables, "rt-link", NULL, 18, name, 64, NULL) == NELI_NULL);
+    /* That of a message: of generic netlink that of its command, by its way. */
+    CHECK(neli_message_name(&tables, 0, bytes, length, &message, name, sizeof name, &size) == NELI_ITEM);
+    CHECK(is_text("RTM_NEWLINK", name, size));
+    CHECK(neli_message_name(&tables, 0, bytes, 31, &message, name, sizeof name, &size) == NELI_PLACE);
+    message.type = 4711;
+    CHECK(neli_message_name(&tables, 0, bytes, length, &message, name, sizeof name, &size) == NELI_END && size == 11);
+    CHECK(neli_tables_learn(&tables, 4711, "ethtool", 7) == NELI_OK);
+    uint8_t rings[20] = {20, 0, 0, 0, 0x67, 0x12, 1, 0, 0, 0, 0, 0, 0, 0, 0, 0, 16, 1, 0, 0};
+    struct neli_walk walk = {0, sizeof rings};
+    CHECK(neli_next_message(rings, sizeof rings, &walk, &message) == NELI_ITEM);
+    CHECK(neli_message_name(&tables, 16, rings, sizeof rings, &message, name, sizeof name, &size) == NELI_ITEM);
+    CHECK(is_text("ETHTOOL_MSG_RINGS_SET", name, size));
+    message.flags = 0;
+    CHECK(neli_message_name(&tables, 16, rings, sizeof rings, &message, name, sizeof name, &size) == NELI_ITEM);
+    CHECK(is_text("ETHTOOL_MSG_RINGS_GET_REPLY", name, size));
+    CHECK(neli_message_name(&tables, 16, rings, sizeof rings, &message, name, 3, &size) == NELI_ITEM && size == 27);
+    CHECK(neli_message_name(&tables, 16, rings, sizeof rings, NULL, name, 3, &size) == NELI_NULL);
+    read_first();
+}
+
+/* One table alone: it has what it has among all, and nothing else. */
+static void check_one_table(void) {
+    struct neli_tables one = NELI_TABLES_CLOSED;
+    uint64_t number = 0;
+    char name[16];
+    size_t size = 0;
+    CHECK(neli_tables_add_built_in(&one, "rt_link") == NELI_STATE && neli_tables_new(&one) == NELI_OK);
+    CHECK(neli_number_of(&one, "rt-link", NULL, "RTM_NEWLINK", &number) == NELI_END);
+    CHECK(neli_tables_add_built_in(&one, "rt-link") == NELI_KIND && neli_tables_add_built_in(&one, "") == NELI_KIND);
+    CHECK(read_items(&one, 0, bytes, length, &message) == NELI_KIND);
+    CHECK(neli_tables_add_built_in(&one, "rt_link") == NELI_OK);
+    CHECK(read_items(&one, 0, bytes, length, &message) == NELI_OK && has_path(1, "IFLA_MTU"));
+    CHECK(neli_number_of(&one, "ethtool", NULL, "ETHTOOL_MSG_RINGS_GET", &number) == NELI_END);
+    CHECK(neli_tables_add_built_in(&one, "ethtool") == NELI_OK && neli_tables_add_built_in(&one, "xfrm") == NELI_OK);
+    CHECK(neli_number_of(&one, "ethtool", NULL, "ETHTOOL_MSG_RINGS_GET", &number) == NELI_ITEM && number == 15);
+    CHECK(neli_number_of(&one, "xfrm", NULL, "XFRM_MSG_NEWSA", &number) == NELI_ITEM && number == 16);
+    CHECK(neli_tables_add_built_in(NULL, "xfrm") == NELI_NULL && neli_tables_add_built_in(&one, NULL) == NELI_NULL);
+    CHECK(neli_tables_free(&one) == NELI_OK);
+    CHECK(neli_number_of(&one, "xfrm", NULL, "XFRM_MSG_NEWSA", &number) == NELI_STATE && number == 16);
+    CHECK(neli_name_of(&one, "xfrm", NULL, 16, name, sizeof name, &size) == NELI_STATE);
+    CHECK(neli_message_name(&one, 0, bytes, length, &message, name, sizeof name, &size) == NELI_STATE && size == 0);
+}
+
+/* A body that is shorter than the structure before its attributes. */
+static void check_short_body(void) {
+    struct neli_message cut = message;
+    item_count = text_size = 4711;
+    for (cut.payload_length = 0; cut.payload_length < 16; cut.payload_length++)
+        CHECK(read_items(&tables, 0, bytes, length, &cut) == NELI_SHORT && item_count == 4711 && text_size == 4711);
+    CHECK(read_items(&tables, 0, bytes, length, &cut) == NELI_OK && item_count == 0 && text_size == 0);
+}
+
 /* ---- A long message */
 
 enum { LONGEST = 10000 };
@@ -436,6 +559,10 @@ int main(void) {
     check_walk();
     check_rooms();
     check_rests();
+    check_numbers();
+    check_names();
+    check_one_table();
+    check_short_body();
     check_time();
     check_texts();
     check_offsets();

@@ -10,7 +10,7 @@
 //! - [`kernel`] makes a kernel's answers to a request, and [`dump`] those in several messages.
 //! - [`tables`] has families' tables, [`printed`] messages by them as text and as JSON, and [`named`] their attributes
 //!   one by one, and what is wrong with them.
-//! - [`text`] says what codes are called.
+//! - [`names`] has names by numbers and numbers by names, [`text`] what codes are called.
 //!
 //! Each call returns a code: from 0 on a result, below 0 a refusal. A refusal leaves its arguments unchanged, unless
 //! the call states otherwise.
@@ -24,6 +24,7 @@ mod lending;
 pub mod lent;
 pub mod lists;
 pub mod named;
+pub mod names;
 pub mod number;
 pub mod printed;
 pub mod router;

@@ -24,7 +24,8 @@ use std::alloc::Global;
 ///
 /// `count` is how many items there are, and `size` how long their texts are. Returns `OK`; `ROOM`
 /// if not all of it has room, and then the first items are stored that have, and the beginning of
-/// the texts; `KIND` if the tables know no attributes of such a message, and then nothing is stored.
+/// the texts; `KIND` if the tables know no attributes of such a message, `SHORT` if its body is shorter than the
+/// structure before them, and then nothing is stored.
 #[unsafe(no_mangle)]
 pub extern "C" fn neli_c_named_items(
     alloc: Global,

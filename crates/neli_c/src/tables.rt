@@ -6,10 +6,12 @@ ghost use Rattle.std.specs.Prelude.{◌≡◌, ◌≢◌, ◌⊎◌, IfSome, IsS
 ghost use Rattle.neli_c_parts.specs.AnswersShown.{payload_view};
 ghost use Rattle.neli_c_parts.specs.Codes.{bad_length, bad_table, memory, ok, state};
 ghost use Rattle.neli_c.specs.Opens.{StaysClosed, StaysOpen};
+ghost use Rattle.neli_c_parts.specs.Lookups.{AddsBuiltIn, heading_named};
 ghost use Rattle.neli_c_parts.specs.Tables.{AddsTable, IsBuiltIn, IsEmpty, Learns, LearnsFrom, head_of};
 
 use neli_c_parts::code::{MEMORY, OK, STATE};
 use neli_c_parts::families::Families;
+use neli_c_parts::lookups::add_built_in;
 use neli_c_parts::message::NeliMessage;
 use neli_c_parts::tables_opaque::NeliTables;
 use neli_c_parts::tabling::{add, learn, learn_from, of_unread};
@@ -106,6 +108,27 @@ pub extern "C" fn neli_c_tables_add(
         return STATE;
     };
     let code = add(alloc, &mut families, text, line, out, size);
+    tables.put(families);
+    code
+}
+
+/// Adds the table that is built in with this name, that of its text in `tables/`, behind the others.
+///
+/// Returns `OK`; `KIND` if none has the name, `MEMORY`, or `TABLE` if the text cannot be read; then nothing is added.
+#[unsafe(no_mangle)]
+pub extern "C" fn neli_c_tables_add_built_in(
+    alloc: Global,
+    tables: &mut NeliTables,
+    name: &[u8],
+) -> i32
+    ensures closed { StaysClosed result tables.old.place.value tables.new.place.value }
+    ensures open { StaysOpen (AddsBuiltIn result (heading_named name.now))
+        tables.old.place.value tables.new.place.value }
+{
+    let Some(mut families) = tables.take(alloc) else {
+        return STATE;
+    };
+    let code = add_built_in(alloc, &mut families, name);
     tables.put(families);
     code
 }

@@ -6,6 +6,7 @@ mod Hears
 mod Items
 mod Lends
 mod Listens
+mod Looked
 pub mod Parts
 mod Replies
 mod Requests

@@ -6,6 +6,7 @@ pub mod DumpsHeld
 pub mod Expecting
 pub mod Lending
 pub mod Listens
+pub mod Lookups
 pub mod Named
 pub mod NamedItems
 pub mod Places

@@ -12,14 +12,14 @@ use Rattle.neli_tables_check.specs.Violations.{Where, violation_in, violation_te
 use Rattle.neli_tables_walk.specs.declared.item.Step.{Step}
 use Rattle.neli_tables_walk.specs.declared.shape.Nest.{Nest as NestOf}
 use Rattle.neli_tables_walk.specs.declared.shape.Shape.{Shape}
-use Rattle.neli_tables_walk.specs.declared.shape.Shape.TheVariants.{Nest}
+use Rattle.neli_tables_walk.specs.declared.shape.Shape.TheVariants.{Nest, Short}
 use Rattle.neli_tables_walk.specs.Shapes.{ContextSeen, Lines}
 use Rattle.neli_c_parts.specs.declared.families.Families.{Families}
 use Rattle.neli_c_parts.specs.declared.named.NeliNamed.{NeliNamed}
 use Rattle.neli_c_parts.specs.NamedItems.{named_items, named_text}
 use Rattle.neli_c_parts.specs.Rooms.{beginning, put_at}
 use Rattle.neli_c_parts.specs.declared.message.NeliMessage.{NeliMessage}
-use Rattle.neli_c_parts.specs.Codes.{bad_length, item, kind, ok, place, room, violation}
+use Rattle.neli_c_parts.specs.Codes.{bad_length, item, kind, ok, place, room, short, violation}
 use Rattle.neli_c_parts.specs.Printed.{PrintsMessage}
 use Rattle.neli_c_parts.specs.Tables.{head_of}
 
@@ -58,11 +58,16 @@ StoresItems code all text items items' count old new size =
     × (code ≡ (if nat_le (length all) (length items) && nat_le (length text) (length old) then ok
     else room))
 
+-- the code of a body without such a list: it is shorter than the structure before its attributes, or has none
+abbrev pub unlisted_code : Shape → ℤ
+unlisted_code (Short nest) = short
+unlisted_code s = kind
+
 -- the same where the tables know the attributes of the message
 abbrev pub StoresIn : ℤ → BodySeen → NeliMessage → Option (ContextSeen × NestOf) → List NeliNamed
     → List NeliNamed → ℕ → List ℕ → List ℕ → ℕ → Type 0
 StoresIn code body m None items items' count old new size =
-    (code ≡ kind) × (items' ≡ items) × (new ≡ old)
+    (code ≡ unlisted_code (body_shape body)) × (items' ≡ items) × (new ≡ old)
 StoresIn code body m (Some (context, nest)) items items' count old new size =
     code ≢ bad_length → StoresItems code (named_items context nest body.3 (body_place body m))
     (named_text context nest body.3) items items' count old new size

@@ -10,6 +10,7 @@
 //! - [`expecting`] is how a request is answered.
 //! - [`families`] are tables: [`tables_place`] and [`tables_opaque`] are how C holds them. [`tabling`] adds to them,
 //!   [`printing`] prints messages by them, and [`naming`] finds attributes by name and what is wrong with them.
+//! - [`lookups`] finds numbers by their names and names by their numbers, and adds one table that is built in.
 //! - [`named`] has the items of a walk by name, and [`room`] writes a text into bytes that may be too few for it.
 //! - [`laws`] has what follows from the contracts.
 #![tactic(auto)]
@@ -27,6 +28,7 @@ pub mod families;
 pub mod laws;
 pub mod lending;
 pub mod lent_reads;
+pub mod lookups;
 pub mod message;
 pub mod named;
 pub mod naming;

@@ -2,17 +2,17 @@
 
 ghost use Rattle.std.specs.Prelude.{◌≡◌, ◌≢◌, ◌&&◌, IfOk, OnErr, nat_le, if◌then◌else◌};
 ghost use Rattle.std.specs.Option.{option_map};
-ghost use Rattle.neli_tables_walk.specs.Bodies.{body_in, body_view};
+ghost use Rattle.neli_tables_walk.specs.Bodies.{body_in, body_shape, body_view};
 ghost use Rattle.neli_tables_walk.specs.Shapes.{context_view};
 ghost use Rattle.neli_c_parts.specs.AnswersShown.{payload_view};
 ghost use Rattle.neli_c_parts.specs.Codes.{bad_length, item, ok, room, violation};
 ghost use Rattle.neli_c_parts.specs.Named.{Checks, Explains, FindsPath, GivesItems, StoresIn, StoresItems, at_in};
-ghost use Rattle.neli_c_parts.specs.Named.{body_place, list_in, place_view, said};
+ghost use Rattle.neli_c_parts.specs.Named.{body_place, list_in, place_view, said, unlisted_code};
 ghost use Rattle.neli_c_parts.specs.NamedItems.{named_items, named_text};
 ghost use Rattle.neli_c_parts.specs.Tables.{head_of};
 
 use crate::bytes::payload_of;
-use crate::code::{ITEM, KIND, LENGTH, OK, PLACE, ROOM, VIOLATION};
+use crate::code::{ITEM, KIND, LENGTH, OK, PLACE, ROOM, SHORT, VIOLATION};
 use crate::families::Families;
 use crate::message::NeliMessage;
 use crate::named::{NeliNamed, Stored, named_items};
@@ -23,7 +23,7 @@ use neli_tables_check::{Place, Refusal, Violation, check, find};
 use neli_tables_walk::{Body, Context, GENERIC_HEADER_SIZE, Nest, Shape, body_of};
 
 /// The body of a message, where its payload lies within the bytes.
-fn body_in<'b, 'w>(
+pub fn body_in<'b, 'w>(
     families: &'w Families,
     protocol: u16,
     bytes: &'b [u8],
@@ -109,6 +109,16 @@ fn store_items(
     of_stored(stored, item_room, text_room, count, size)
 }
 
+/// The code of a body that is no list of attributes: `SHORT` if it is shorter than the structure before them.
+fn unlisted(body: &Body<'_, '_, 'static>) -> i32
+    ensures { result ≡ unlisted_code (body_shape (body_view body.now)) }
+{
+    match body.shape() {
+        Shape::Short(_) => SHORT,
+        _ => KIND,
+    }
+}
+
 /// Stores the items of a body, if its table has its attributes.
 fn body_items(
     body: &Body<'_, '_, 'static>,
@@ -124,7 +134,7 @@ fn body_items(
         → (count.new ≡ count.old) × (size.new ≡ size.old) }
 {
     let Some((context, nest)) = list_in(body) else {
-        return KIND;
+        return unlisted(body);
     };
     let place = body_place(body, message);
     store_items(context, nest, body.bytes, place, items, count, out, size)

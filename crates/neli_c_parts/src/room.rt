@@ -36,7 +36,7 @@ impl<'a> fmt::Write for Room<'a> {
 }
 
 /// Writes bytes from a place on, as many as there is room for.
-fn put_at(out: &mut [u8], place: usize, bytes: &[u8])
+pub fn put_at(out: &mut [u8], place: usize, bytes: &[u8])
     ensures { out.new ≡ put_at place bytes.now out.old }
 {
     if place < out.len() {

@@ -389,7 +389,8 @@ impl<'s> Message<'s> {
     }
 
     /// Its attributes by name, those in a nest behind the nest. There are none where no table knows the message. It is
-    /// walked once, so that the time grows with its length. Refused as [`Schema::datagram_json`] is, for their texts.
+    /// walked once, so that the time grows with its length. Refused as [`Refusal::SHORT`] where its body is shorter than
+    /// the structure before them, and for their texts as [`Schema::datagram_json`] is.
     pub fn attributes(&self) -> Result<Attributes<'s>, Refusal> {
         let (mut items, mut text) = (vec![Named::default(); 64], vec![0; 4096]);
         let (mut count, mut size) = (0, 0);

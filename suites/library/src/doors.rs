@@ -2,6 +2,10 @@
 //!
 //! A request is of type 18 (`RTM_GETLINK` of `linux/rtnetlink.h`) with `NLM_F_REQUEST | NLM_F_DUMP`; codes are those of
 //! `include/neli.h`.
+//!
+//! - [`names`]: numbers by their names and names by their numbers.
+
+mod names;
 
 use neli_c_parts::code::{HANDLE, ITEM, OK, WAITS};
 use neli_c_parts::lending::NeliLent;
