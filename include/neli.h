@@ -260,14 +260,15 @@ enum neli_kind {
     NELI_KIND_HOP = 32,   /* a structure with attributes, which come next */
     NELI_KIND_SHORT = 33, /* bytes: less than the structure that a nest begins with */
     NELI_KIND_DEEP = 34,  /* bytes: a nest in nine others, which is not entered */
-    NELI_KIND_REST = 35   /* bytes behind the attributes of a list, which are none */
+    NELI_KIND_REST = 35,  /* bytes behind the attributes of a list, which are none */
+    NELI_KIND_FIELD = 36  /* a field of the structure before a message's attributes */
 };
 
-/* An item by name: an attribute, a hop, or a rest. */
+/* An item by name: an attribute, a hop, a rest, or a field. */
 struct neli_named {
-    uint16_t number; /* of an attribute; 0 of a hop and of a rest */
+    uint16_t number; /* of an attribute; else 0 */
     uint8_t kind;    /* of enum neli_kind */
-    uint8_t depth;   /* 1 in the message's own list, and one more in each nest */
+    uint8_t depth;   /* 1 in the message's own list, and one more in each nest; 0 of a field */
     size_t payload, payload_length; /* its place in the bytes that the message was read from */
     size_t path, path_length;       /* the place of its path in the texts of its call, and of its value in JSON */
     size_t value, value_length;
@@ -393,6 +394,9 @@ int32_t neli_c_datagram_json(struct neli_tables *tables, uint16_t protocol, cons
 int32_t neli_c_named_items(struct neli_tables *tables, uint16_t protocol, const uint8_t *bytes, size_t length,
                            const struct neli_message *message, struct neli_named *items, size_t item_room,
                            size_t *count, uint8_t *out, size_t room, size_t *size);
+int32_t neli_c_named_field(struct neli_tables *tables, uint16_t protocol, const uint8_t *bytes, size_t length,
+                           const struct neli_message *message, size_t index, struct neli_named *named, uint8_t *out,
+                           size_t room, size_t *size);
 int32_t neli_c_number_of(struct neli_tables *tables, const uint8_t *family, size_t family_length, const uint8_t *list,
                          size_t list_length, const uint8_t *name, size_t name_length, uint64_t *number);
 int32_t neli_c_name_of(struct neli_tables *tables, const uint8_t *family, size_t family_length, const uint8_t *list,
@@ -1253,6 +1257,22 @@ static inline int32_t neli_named_items(struct neli_tables *tables, uint16_t prot
     if (!neli_is_slice(text, room) || size == NULL) return NELI_NULL;
     return neli_c_named_items(tables, protocol, neli_read_at(bytes), length, message, items != NULL ? items : none,
                               item_room, count, neli_write_at((uint8_t *)text), room, size);
+}
+
+/* Stores the field of this index, counted from 0, of the structure before a message's attributes, as `ifi_index` of a
+ * link: an item of the kind NELI_KIND_FIELD, whose path is its name, and writes its texts as neli_named_items does:
+ * NELI_ITEM, or NELI_END if there is no such field. Of a field that ends past the body its bytes are those that are
+ * there. NELI_PLACE if the payload is past the bytes.
+ *
+ * NELI_ITEM is returned also if the texts do not fit: `text` has their beginning, and `size` is how long the whole is.
+ * Without NELI_ITEM `field` and `size` are as they were. */
+static inline int32_t neli_named_field(struct neli_tables *tables, uint16_t protocol, const uint8_t *bytes,
+                                       size_t length, const struct neli_message *message, size_t index,
+                                       struct neli_named *field, char *text, size_t room, size_t *size) {
+    if (tables == NULL || !neli_is_slice(bytes, length) || message == NULL || field == NULL) return NELI_NULL;
+    if (!neli_is_slice(text, room) || size == NULL) return NELI_NULL;
+    return neli_c_named_field(tables, protocol, neli_read_at(bytes), length, message, index, field,
+                              neli_write_at((uint8_t *)text), room, size);
 }
 
 /* Stores the number of a name in the first table whose family has this name, as `rt-link` or `ethtool`: of the first row

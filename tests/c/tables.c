@@ -325,6 +325,47 @@ static void check_one_table(void) {
     CHECK(neli_message_name(&one, 0, bytes, length, &message, name, sizeof name, &size) == NELI_STATE && size == 0);
 }
 
+/* The fields of struct ifinfomsg (linux/rtnetlink.h): of a link of index 7 of which nothing else is set. */
+static void check_fields(void) {
+    static const struct {
+        const char *name, *value;
+        size_t place, size;
+    } rows[] = {{"ifi_family", "0", 0, 1}, {"ifi_type", NULL, 2, 2}, {"ifi_index", "7", 4, 4},
+                {"ifi_flags", "[]", 8, 4}, {"ifi_change", "0", 12, 4}};
+    enum { COUNT = sizeof rows / sizeof *rows };
+    struct neli_named it, before;
+    struct neli_message cut = message;
+    char text[64];
+    size_t size = 4711;
+    for (size_t i = 0; i < COUNT; i++) {
+        CHECK(neli_named_field(&tables, 0, bytes, length, &message, i, &it, text, sizeof text, &size) == NELI_ITEM);
+        CHECK(it.number == 0 && it.kind == NELI_KIND_FIELD && it.depth == 0 && it.path == 0);
+        CHECK(it.payload == 16 + rows[i].place && it.payload_length == rows[i].size);
+        CHECK(is_text(rows[i].name, text, it.path_length) && it.value == it.path_length);
+        CHECK(rows[i].value == NULL || is_text(rows[i].value, text + it.value, it.value_length));
+        CHECK(size == it.value + it.value_length);
+        text[3] = '?';
+        before = it;
+        CHECK(neli_named_field(&tables, 0, bytes, length, &message, i, &it, text, 3, &size) == NELI_ITEM);
+        CHECK(text[3] == '?' && memcmp(text, rows[i].name, 3) == 0 && memcmp(&it, &before, sizeof it) == 0);
+    }
+    size = 4711;
+    CHECK(neli_named_field(&tables, 0, bytes, length, &message, COUNT, &it, text, 64, &size) == NELI_END);
+    CHECK(neli_named_field(&tables, 0, bytes, length, &message, SIZE_MAX, &it, text, 64, &size) == NELI_END);
+    CHECK(neli_named_field(&tables, 0, bytes, 31, &message, 0, &it, text, 64, &size) == NELI_PLACE && size == 4711);
+    /* Of a shorter body what is there. */
+    cut.payload_length = 5;
+    CHECK(neli_named_field(&tables, 0, bytes, length, &cut, 2, &it, text, 64, &size) == NELI_ITEM);
+    CHECK(it.payload == 20 && it.payload_length == 1);
+    CHECK(neli_named_field(&tables, 0, bytes, length, &cut, 4, &it, text, 64, &size) == NELI_ITEM);
+    CHECK(it.payload == 28 && it.payload_length == 0);
+    cut.type = 4711;
+    CHECK(neli_named_field(&tables, 0, bytes, length, &cut, 0, &it, text, 64, &size) == NELI_END);
+    CHECK(neli_named_field(&tables, 0, bytes, length, NULL, 0, &it, text, 64, &size) == NELI_NULL);
+    CHECK(neli_named_field(&tables, 0, bytes, length, &message, 0, NULL, text, 64, &size) == NELI_NULL);
+    CHECK(neli_named_field(&tables, 0, bytes, length, &message, 0, &it, NULL, 64, &size) == NELI_NULL);
+}
+
 /* A body that is shorter than the structure before its attributes. */
 static void check_short_body(void) {
     struct neli_message cut = message;
@@ -563,6 +604,7 @@ int main(void) {
     check_names();
     check_one_table();
     check_short_body();
+    check_fields();
     check_time();
     check_texts();
     check_offsets();

@@ -10,10 +10,12 @@ ghost use Rattle.std.specs.Prelude.{◌≡◌, ◌≢◌, IfSome, None};
 ghost use Rattle.neli_c_parts.specs.AnswersShown.{payload_view};
 ghost use Rattle.neli_c_parts.specs.Codes.{item, ok, room, state, violation};
 ghost use Rattle.neli_c_parts.specs.Named.{Checks, Explains, FindsPath, GivesItems};
+ghost use Rattle.neli_c_parts.specs.NamedFields.{GivesField};
 
 use neli_c_parts::code::STATE;
 use neli_c_parts::message::NeliMessage;
 use neli_c_parts::named::NeliNamed;
+use neli_c_parts::named_fields::message_field;
 use neli_c_parts::naming::{check_message, message_items, path_at, refusal_text};
 use neli_c_parts::tables_opaque::NeliTables;
 use std::alloc::Global;
@@ -51,6 +53,40 @@ pub extern "C" fn neli_c_named_items(
         return STATE;
     };
     let code = message_items(&families, protocol, bytes, message, items, count, out, size);
+    tables.put(families);
+    code
+}
+
+/// Stores the field of this index of the structure at the front of a message's body, before its attributes, and writes
+/// its name, and behind it its value in JSON by its row. Of a field that ends past the body its bytes are those that
+/// are there.
+///
+/// Returns `ITEM`; `OK` if there is no such field.
+#[unsafe(no_mangle)]
+pub extern "C" fn neli_c_named_field(
+    alloc: Global,
+    tables: &mut NeliTables,
+    protocol: u16,
+    bytes: &[u8],
+    message: &NeliMessage,
+    index: usize,
+    named: &mut NeliNamed,
+    out: &mut [u8],
+    size: &mut usize,
+) -> i32
+    ensures closed { tables.old.place.value ≡ None
+        → (result ≡ state) × (named.new ≡ named.old) × (out.new ≡ out.old) × (size.new ≡ size.old) }
+    ensures open { IfSome tables.old.place.value (λ s. GivesField result protocol message.now
+        (payload_view bytes.now message.now) index s named.old named.new out.old out.new size.old
+        size.new) }
+    ensures same { tables.new.place.value ≡ tables.old.place.value }
+{
+    let Some(families) = tables.take(alloc) else {
+        return STATE;
+    };
+    let code = message_field(
+        &families, protocol, bytes, message, index, named, out, size,
+    );
     tables.put(families);
     code
 }

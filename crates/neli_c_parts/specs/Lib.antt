@@ -8,6 +8,7 @@ pub mod Lending
 pub mod Listens
 pub mod Lookups
 pub mod Named
+pub mod NamedFields
 pub mod NamedItems
 pub mod Places
 pub mod Printed

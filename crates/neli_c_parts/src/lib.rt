@@ -11,7 +11,7 @@
 //! - [`families`] are tables: [`tables_place`] and [`tables_opaque`] are how C holds them. [`tabling`] adds to them,
 //!   [`printing`] prints messages by them, and [`naming`] finds attributes by name and what is wrong with them.
 //! - [`lookups`] finds numbers by their names and names by their numbers, and adds one table that is built in.
-//! - [`named`] has the items of a walk by name, and [`room`] writes a text into bytes that may be too few for it.
+//! - [`named`] has the items of a walk by name, [`named_fields`] the fields of the structure before them, and [`room`] writes a text into bytes that may be too few for it.
 //! - [`laws`] has what follows from the contracts.
 #![tactic(auto)]
 
@@ -31,6 +31,7 @@ pub mod lent_reads;
 pub mod lookups;
 pub mod message;
 pub mod named;
+pub mod named_fields;
 pub mod naming;
 pub mod outcome;
 pub mod printing;

@@ -50,7 +50,7 @@ fn list_in<'w>(body: &Body<'_, 'w, 'static>) -> Option<(Context<'w, 'static>, Ne
 }
 
 /// The place of a body in the bytes that its message was read from; the largest where that passes 64 bits.
-fn body_place(body: &Body<'_, '_, 'static>, message: &NeliMessage) -> usize
+pub fn body_place(body: &Body<'_, '_, 'static>, message: &NeliMessage) -> usize
     ensures { result ≡ body_place (body_view body.now) message.now }
 {
     match body.generic {

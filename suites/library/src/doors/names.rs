@@ -6,6 +6,7 @@ use neli_c_parts::families::Families;
 use neli_c_parts::lookups::{add_built_in, message_name, name_of, number_of};
 use neli_c_parts::message::NeliMessage;
 use neli_c_parts::named::NeliNamed;
+use neli_c_parts::named_fields::message_field;
 use neli_c_parts::naming::message_items;
 use std::alloc::Global;
 use std::test::Fail;
@@ -108,6 +109,54 @@ fn messages_have_names(rt: HostRuntime) -> Result<(), Fail> {
         let read = message(message_type, flags, length);
         let code = message_name(&families, protocol, &bytes, &read, &mut out, &mut size);
         assert_eq!(rt; (code, &out[..size]), (wanted, text), "of {message_type}");
+    }
+    Ok(())
+}
+
+/// An item of which nothing is known.
+fn no_item() -> NeliNamed {
+    NeliNamed {
+        number: 7,
+        kind: 7,
+        depth: 7,
+        payload: 7,
+        payload_length: 7,
+        path: 7,
+        path_length: 7,
+        value: 7,
+        value_length: 7,
+    }
+}
+
+/// Those of `struct ifinfomsg` and of `struct rtgenmsg`: each with its place and its bytes, and its name and its value.
+#[test]
+fn messages_have_fields(rt: HostRuntime) -> Result<(), Fail> {
+    let alloc = rt.alloc();
+    let mut families = two_tables(alloc);
+    assert_eq!(rt; add_built_in(alloc, &mut families, b"rt_nsid"), OK);
+    let rows: [(u16, usize, usize, i32, usize, usize, &[u8]); 8] = [
+        (16, 16, 0, ITEM, 16, 1, b"ifi_family0"),
+        (16, 16, 1, ITEM, 18, 2, b"ifi_type\"ether\""),
+        (16, 16, 2, ITEM, 20, 4, b"ifi_index3"),
+        (16, 16, 3, ITEM, 24, 4, b"ifi_flags[\"up\"]"),
+        (16, 16, 5, OK, 7, 7, b""),
+        (16, 8, 2, ITEM, 20, 4, b"ifi_index3"),
+        (88, 16, 0, ITEM, 16, 1, b"rtgen_family0"),
+        (4711, 16, 0, OK, 7, 7, b""),
+    ];
+    let mut bytes = [0; 32];
+    bytes[18] = 1;
+    bytes[20] = 3;
+    bytes[24] = 1;
+    for (message_type, length, index, wanted, place, size, text) in rows {
+        let (mut out, mut written, mut named) = ([0; 32], 0, no_item());
+        let read = message(message_type, 0, length);
+        let code = message_field(
+            &families, 0, &bytes, &read, index, &mut named, &mut out, &mut written,
+        );
+        assert_eq!(rt; (code, &out[..written]), (wanted, text), "of {message_type}, {index}");
+        assert_eq!(rt; (named.payload, named.payload_length), (place, size));
+        assert_eq!(rt; named.kind, if wanted == ITEM { 36 } else { 7 });
     }
     Ok(())
 }
