@@ -1312,9 +1312,9 @@ static inline int32_t neli_message_name(struct neli_tables *tables, uint16_t pro
                                room, size);
 }
 
-/* Checks that a message's attributes are as their rows say, as those of a request before it is sent: NELI_OK, or
- * NELI_VIOLATION, and then `out` has the path of the first that is not, and what is wrong with it. What has no row
- * passes. NELI_PLACE if the payload is past the bytes.
+/* Checks a message before it is sent, as the parser does by which the kernel reads such a request, the strict or the
+ * liberal one, as its table says: NELI_OK, or NELI_VIOLATION, and then `out` has the path of the first attribute that it
+ * would refuse, and what is wrong with it. A message without a line passes. NELI_PLACE if the payload is past the bytes.
  *
  * NELI_VIOLATION is returned also if that text does not fit: `out` has its beginning, and `size` is how long the whole
  * is. Without NELI_VIOLATION `size` is as it was. */

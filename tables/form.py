@@ -15,9 +15,9 @@ NAMING = {'nest': 'set', 'struct': 'struct', 'choice': 'choice', 'hops': 'set'}
 KINDS = PLAIN | set(NAMING)
 # Options that name a line, that have numbers, another word, and nothing.
 REFERENCES = {'enum': 'enum', 'flags': 'flags', 'after': 'struct', 'by': 'attr'}
-SPANS = {'length', 'range', 'mask', 'family', 'version', 'id', 'at'}
+SPANS = {'length', 'range', 'mask', 'family', 'version', 'id', 'at', 'strict-from'}
 WORDS = {'prefix'}
-MARKS = {'array', 'multi', 'request', 'reply', 'hex', 'by-family'}
+MARKS = {'array', 'multi', 'request', 'reply', 'hex', 'by-family', 'strict'}
 
 NUMBER = re.compile('0x([0-9a-f]+)|([0-9]+)')
 
@@ -31,7 +31,8 @@ BESIDE = {'after': {'nest', 'hops'}, 'by': {'choice'}, 'by-family': {'choice'}, 
           'flags': ANY_NUMBER | {'bits'}, 'array': ANY_NUMBER | {'struct'}, 'range': ANY_NUMBER, 'mask': ANY_NUMBER,
           'hex': ANY_NUMBER | {'bytes'}, 'length': KINDS}
 ON = {'multi': {'attr'}, 'request': {'message'}, 'reply': {'message'}, 'family': {'message'}, 'version': {'family'},
-      'id': {'family'}, 'at': {'family'}, 'prefix': {'enum', 'flags'}}
+      'id': {'family'}, 'at': {'family'}, 'prefix': {'enum', 'flags'},
+      'strict': {'message'}, 'strict-from': {'set'}}
 
 
 class Refused(Exception):

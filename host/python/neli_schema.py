@@ -273,7 +273,10 @@ class Schema:
         return found
 
     def check(self, message: neli.Message) -> str | None:
-        """What is wrong with the first attribute that is not as its row says, in words; None if all are."""
+        """What is wrong with the first attribute that the kernel's parser of such a request refuses, or None.
+
+        The table says which parser that is, the strict or the liberal one.
+        """
         code, text = _written(_lib.neli_c_check, *self._words(message))
         if code not in (OK, VIOLATION):
             _done(code)

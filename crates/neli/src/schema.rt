@@ -4,14 +4,17 @@
 //! - [`body_of`]: which line of which table a message has. [`Body::walk`] gives its attributes, each
 //!   with its path and what its payload is.
 //! - [`PayloadText`], [`PayloadJson`]: a payload, printed. [`PathText`]: a path by the names on it.
-//! - [`check`]: the first attribute of a request that its row does not allow. [`find`]: the attribute
-//!   at the offset that an extended acknowledgement states. [`Refusal`]: an error in one line.
+//! - [`check`]: the first attribute of a request that the kernel's parser does not allow; [`check_as`] by the strict or
+//!   the liberal one. [`find`]: the attribute at the offset that an extended acknowledgement states. [`Refusal`]: an
+//!   error in one line.
 
 pub use neli_tables::{
     Column, Kind, Line, MessagePlace, Options, ReadError, Span, Table, Tables, Way, Why, Word,
     is_set, options_of, prefix_of, unnamed_bits,
 };
-pub use neli_tables_check::{PathText, Place, Refusal, Violation, Wrong, check, find};
+pub use neli_tables_check::{
+    PathText, Place, Refusal, Validation, Violation, Wrong, check, check_as, find, validation_of,
+};
 pub use neli_tables_generic::GenericTable;
 pub use neli_tables_routing::RoutingTable;
 pub use neli_tables_system::SystemTable;

@@ -91,10 +91,10 @@ pub extern "C" fn neli_c_named_field(
     code
 }
 
-/// Checks that a message's attributes are as their rows say, as those of a request before it is sent, and prints the first
-/// that is not.
+/// Checks a message before it is sent, as the parser does by which the kernel reads such a request, as its table says, and
+/// prints the first attribute that it would refuse.
 ///
-/// Returns `OK` if all are; `VIOLATION` if one is not. What has no row passes.
+/// Returns `OK` if there is none; `VIOLATION` if there is one. A message without a line passes.
 #[unsafe(no_mangle)]
 pub extern "C" fn neli_c_check(
     alloc: Global,

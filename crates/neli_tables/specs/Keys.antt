@@ -4,7 +4,7 @@ use Rattle.neli_tables.specs.declared.key.Key.{Key}
 use Rattle.neli_tables.specs.declared.key.Key.TheVariants.{After, By, ByFamily, Enum, Flags, Array}
 use Rattle.neli_tables.specs.declared.key.Key.TheVariants.{Multi, Length, Range}
 use Rattle.neli_tables.specs.declared.key.Key.TheVariants.{Mask, Hex, Request, Reply, Family, Version}
-use Rattle.neli_tables.specs.declared.key.Key.TheVariants.{Id, At, Prefix}
+use Rattle.neli_tables.specs.declared.key.Key.TheVariants.{Id, At, Prefix, Strict, StrictFrom}
 use Rattle.neli_tables.specs.Rows.{named}
 
 -- each name, and its option
@@ -28,6 +28,8 @@ keys =
     (codes "id", Id) ∷
     (codes "at", At) ∷
     (codes "prefix", Prefix) ∷
+    (codes "strict", Strict) ∷
+    (codes "strict-from", StrictFrom) ∷
     []
 
 -- the option with this name

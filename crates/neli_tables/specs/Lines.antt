@@ -172,6 +172,10 @@ abbrev pub is_message : Word → Bool
 is_message word.Message = true
 is_message w = false
 
+abbrev pub is_set : Word → Bool
+is_set word.Set = true
+is_set w = false
+
 abbrev pub is_family : Word → Bool
 is_family word.Family = true
 is_family w = false
@@ -197,6 +201,8 @@ key_belongs w c key.Multi = is_attr w
 key_belongs w c key.Request = is_message w
 key_belongs w c key.Reply = is_message w
 key_belongs w c key.Family = is_message w
+key_belongs w c key.Strict = is_message w
+key_belongs w c key.StrictFrom = is_set w
 key_belongs w c key.Version = is_family w
 key_belongs w c key.Id = is_family w
 key_belongs w c key.At = is_family w

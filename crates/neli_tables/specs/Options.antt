@@ -51,6 +51,8 @@ key_option o key.Family v = record o { family = number_in v }
 key_option o key.Version v = record o { version = number_in v }
 key_option o key.Id v = record o { id = number_in v }
 key_option o key.At v = record o { at = span_in v }
+key_option o key.Strict v = record o { strict = true }
+key_option o key.StrictFrom v = record o { strict_from = number_in v }
 key_option o key.Prefix v = o
 
 abbrev pub said_option : Options → Said → Value (List ℕ) → Options
@@ -86,6 +88,8 @@ no_options = record {
   version = None;
   id = None;
   at = None;
+  strict = false;
+  strict_from = None;
 }
 
 abbrev pub options_in : List (Setting (List ℕ)) → Options

@@ -56,6 +56,7 @@ key_takes key.Family = asks.Span
 key_takes key.Version = asks.Span
 key_takes key.Id = asks.Span
 key_takes key.At = asks.Span
+key_takes key.StrictFrom = asks.Span
 key_takes k = asks.Nothing
 
 -- the value that an option takes after a `=`
@@ -82,6 +83,8 @@ key_slot key.Version = 15
 key_slot key.Id = 16
 key_slot key.At = 17
 key_slot key.Prefix = 18
+key_slot key.Strict = 19
+key_slot key.StrictFrom = 20
 
 -- the number of an option: kinds share one, since a line has one kind
 abbrev pub slot : Said → ℕ

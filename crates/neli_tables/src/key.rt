@@ -45,10 +45,14 @@ pub enum Key {
     At,
     /// `prefix`. The prefix of the header's names.
     Prefix,
+    /// `strict`. The kernel reads the message by its strict parser.
+    Strict,
+    /// `strict-from`. The number from which on attributes are read so, whatever the message.
+    StrictFrom,
 }
 
 /// Each name, and its option.
-static KEYS: [(&[u8], Key); 18] = [
+static KEYS: [(&[u8], Key); 20] = [
     (b"after", Key::After),
     (b"by", Key::By),
     (b"by-family", Key::ByFamily),
@@ -67,6 +71,8 @@ static KEYS: [(&[u8], Key); 18] = [
     (b"id", Key::Id),
     (b"at", Key::At),
     (b"prefix", Key::Prefix),
+    (b"strict", Key::Strict),
+    (b"strict-from", Key::StrictFrom),
 ];
 
 /// The whole table.

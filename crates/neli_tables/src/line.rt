@@ -210,7 +210,8 @@ fn key_belongs(word: Word, class: Class, key: Key) -> bool
         Key::Range | Key::Mask => matches!(class, Class::Number),
         Key::Hex => matches!(class, Class::Number | Class::Bytes),
         Key::Multi => matches!(word, Word::Attr),
-        Key::Request | Key::Reply | Key::Family => matches!(word, Word::Message),
+        Key::Request | Key::Reply | Key::Family | Key::Strict => matches!(word, Word::Message),
+        Key::StrictFrom => matches!(word, Word::Set),
         Key::Version | Key::Id | Key::At => matches!(word, Word::Family),
         Key::Prefix => matches!(word, Word::Enum | Word::Flags),
     }

@@ -53,6 +53,10 @@ pub struct Options {
     pub id: Option<u64>,
     /// The bytes of the body in which the message's number stands: from the first on, and before the last.
     pub at: Option<Span>,
+    /// Whether the kernel reads the message by its strict parser.
+    pub strict: bool,
+    /// The number from which on attributes of the set are read so, whatever the message.
+    pub strict_from: Option<u64>,
 }
 
 /// No options.
@@ -76,6 +80,8 @@ const NONE: Options = Options {
     version: None,
     id: None,
     at: None,
+    strict: false,
+    strict_from: None,
 };
 
 /// The line that a value means.
@@ -139,6 +145,8 @@ impl Options {
             Key::Version => self.version = number_in(value),
             Key::Id => self.id = number_in(value),
             Key::At => self.at = span_in(value),
+            Key::Strict => self.strict = true,
+            Key::StrictFrom => self.strict_from = number_in(value),
             Key::Prefix => {}
         }
     }

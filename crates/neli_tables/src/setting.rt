@@ -83,7 +83,8 @@ impl Said {
                 | Key::Family
                 | Key::Version
                 | Key::Id
-                | Key::At,
+                | Key::At
+                | Key::StrictFrom,
             ) => Takes::Span,
             Said::Key(_) => Takes::Nothing,
         }
@@ -114,6 +115,8 @@ fn slot(said: Said) -> u8
         Said::Key(Key::Id) => 16,
         Said::Key(Key::At) => 17,
         Said::Key(Key::Prefix) => 18,
+        Said::Key(Key::Strict) => 19,
+        Said::Key(Key::StrictFrom) => 20,
     }
 }
 

@@ -1,4 +1,6 @@
+pub mod Cuts
 pub mod Offsets
+pub mod Parsers
 pub mod Paths
 pub mod Refusals
 pub mod Violations

@@ -1,121 +1,34 @@
--- The first attribute that its row does not allow.
-use Rattle.std.specs.Prelude.{ℕ, ℤ, ◌-◌, Bool, true, false, not, ◌&&◌, ◌||◌, ◌==◌, nat_le}
-use Rattle.std.specs.Prelude.{if◌then◌else◌}
-use Rattle.std.specs.Prelude.{bit_and, negsuc, List, [], ◌∷◌, ◌++◌, codes, length, slice_get}
-use Rattle.std.specs.Prelude.{Option, Some, None, Result, Ok, Err}
+-- The first attribute that a parser of the kernel refuses.
+use Rattle.std.specs.Prelude.{ℕ, zero, suc, Bool, ◌||◌, true, false, not, ◌&&◌, ◌==◌, nat_le, nat_lt}
+use Rattle.std.specs.Prelude.{if◌then◌else◌, List, [], ◌∷◌, ◌++◌, codes, length, take, drop, slice_get}
+use Rattle.std.specs.Prelude.{Option, Some, None, is_some, Result, Ok, Err}
 use Rattle.std.specs.Fmt.{decimal, digits}
-use Rattle.std.specs.Option.{option_or}
+use Rattle.std.specs.Option.{option_map, option_or}
+use Rattle.neli_wire.specs.Sizes.{align}
 use Rattle.neli_tables.specs.declared.kind.Kind.{Kind}
 use Rattle.neli_tables.specs.declared.kind.Kind.TheVariants as kind
-use Rattle.neli_tables.specs.declared.number.Span.{Span}
 use Rattle.neli_tables.specs.declared.options.Options.{Options}
-use Rattle.neli_tables_walk.specs.Bodies.{BodySeen, body_items, body_shape}
+use Rattle.neli_tables.specs.declared.word.Word.{Word}
+use Rattle.neli_tables.specs.FoundRows.{row_in}
+use Rattle.neli_tables.specs.Lines.{LineSeen}
+use Rattle.neli_tables.specs.Options.{options_of}
+use Rattle.neli_tables.specs.RowKeys.{place_of, rest_key}
+use Rattle.neli_tables_walk.specs.Bodies.{BodySeen, body_context, body_shape}
+use Rattle.neli_tables_walk.specs.Breaches.{breach_text}
 use Rattle.neli_tables_walk.specs.declared.item.Step.{Step}
+use Rattle.neli_tables_walk.specs.declared.shape.Nest.{Nest}
 use Rattle.neli_tables_walk.specs.declared.shape.Shape.{Shape}
 use Rattle.neli_tables_walk.specs.declared.shape.Shape.TheVariants as shape
-use Rattle.neli_tables_walk.specs.Shapes.{Lines, line_options}
-use Rattle.neli_tables_walk.specs.Walks.{Seen}
-use Rattle.neli_tables_walk.specs.declared.breach.Breach.{Breach}
-use Rattle.neli_tables_walk.specs.declared.breach.Breach.TheVariants.{Shorter}
-use Rattle.neli_tables_walk.specs.declared.number.Number.{Number}
-use Rattle.neli_tables_walk.specs.declared.number.Width.{Width}
-use Rattle.neli_tables_walk.specs.Breaches.{breach_text, without_zero}
-use Rattle.neli_tables_walk.specs.Numbers.{number_in, width_of}
-use Rattle.neli_tables_walk.specs.Values.{payload_breach}
+use Rattle.neli_tables_walk.specs.Shapes.{ContextSeen, Lines, case_shape, kind_at, line_options, picked_as}
+use Rattle.neli_tables_check.specs.declared.listed.Listed.{Listed}
+use Rattle.neli_tables_check.specs.declared.validation.Validation.{Validation}
+use Rattle.neli_tables_check.specs.declared.validation.Validation.TheVariants.{Strict, Liberal}
 use Rattle.neli_tables_check.specs.declared.violation.Violation.{Violation}
 use Rattle.neli_tables_check.specs.declared.wrong.Wrong.{Wrong}
 use Rattle.neli_tables_check.specs.declared.wrong.Wrong.TheVariants as wrong
+use Rattle.neli_tables_check.specs.Cuts.{behind, entry_number, entry_size, is_flagged, last_payload}
+use Rattle.neli_tables_check.specs.Parsers.{flag_wrong, length_wrong, shape_wrong}
 use Rattle.neli_tables_check.specs.Paths.{path_text}
-
--- ---- lengths
-
--- a number is from the first to the last
-abbrev pub is_within : Span → ℕ → Bool
-is_within span number = nat_le span.first number && nat_le number span.last
-
--- the length of a payload: of a text without a zero at its end
-abbrev pub text_length : Option Kind → List ℕ → ℕ
-text_length (Some kind.Text) bytes = length (without_zero bytes)
-text_length (Some kind.Ztext) bytes = length (without_zero bytes)
-text_length k bytes = length bytes
-
-abbrev pub unless_within : Option Span → ℕ → Option Wrong
-unless_within None number = None
-unless_within (Some span) number = if is_within span number then None else Some (wrong.Length span)
-
--- a length that `length=` does not allow
-abbrev pub length_wrong : Options → List ℕ → Option Wrong
-length_wrong o bytes = unless_within o.length (text_length o.kind bytes)
-
-abbrev pub lengths_wrong : Option Options → List ℕ → Option Wrong
-lengths_wrong None bytes = None
-lengths_wrong (Some o) bytes = length_wrong o bytes
-
--- ---- values
-
-abbrev pub is_negative : Option ℤ → Bool
-is_negative (Some (negsuc n)) = true
-is_negative z = false
-
--- a number is below the first or above the last
-abbrev pub is_outside : Span → Number → Bool
-is_outside span n = is_negative n.signed || not (is_within span n.bits)
-
-abbrev pub range_wrong : Option Span → Number → Option Wrong
-range_wrong None n = None
-range_wrong (Some span) n = if is_outside span n then Some (wrong.Range span) else None
-
-abbrev pub mask_wrong : Option ℕ → Number → Option Wrong
-mask_wrong None n = None
-mask_wrong (Some mask) n = if bit_and n.bits mask == n.bits then None else Some (wrong.Mask mask)
-
--- a number that `range=` or `mask=` does not allow
-abbrev pub number_wrong : Options → Option Number → Option Wrong
-number_wrong o None = None
-number_wrong o (Some n) = option_or (range_wrong o.range n) (mask_wrong o.mask n)
-
-abbrev pub widths_wrong : Options → Option Width → List ℕ → Option Wrong
-widths_wrong o None bytes = None
-widths_wrong o (Some w) bytes = number_wrong o (number_in w bytes)
-
-abbrev pub kinds_wrong : Options → Option Kind → List ℕ → Option Wrong
-kinds_wrong o None bytes = None
-kinds_wrong o (Some k) bytes = widths_wrong o (width_of (length bytes) k) bytes
-
--- the same of a payload that is one number
-abbrev pub values_wrong : Options → List ℕ → Option Wrong
-values_wrong o bytes = if o.array then None else kinds_wrong o o.kind bytes
-
--- ---- payloads
-
-abbrev pub options_wrong : Option Options → List ℕ → Option Wrong
-options_wrong None bytes = None
-options_wrong (Some o) bytes = option_or (length_wrong o bytes) (values_wrong o bytes)
-
-abbrev pub kind_wrong : Option Breach → Option Wrong
-kind_wrong None = None
-kind_wrong (Some breach) = Some (wrong.Kind breach)
-
--- what the line at a place does not allow: a payload that cannot be of its kind, a length, a value
-abbrev pub place_wrong : Lines → ℕ → List ℕ → Option Wrong
-place_wrong table place bytes =
-    option_or (kind_wrong (payload_breach table place bytes))
-    (options_wrong (line_options table place) bytes)
-
--- a length that the row of an attribute does not allow
-abbrev pub row_wrong : Lines → Option ℕ → List ℕ → Option Wrong
-row_wrong table None bytes = None
-row_wrong table (Some row) bytes = lengths_wrong (line_options table row) bytes
-
--- what is wrong with a payload of this shape
-abbrev pub shape_wrong : Lines → Option ℕ → Shape → List ℕ → Option Wrong
-shape_wrong table row (shape.Deep nest) bytes = Some wrong.Deep
-shape_wrong table row (shape.Short nest) bytes = Some (wrong.Kind (Shorter nest.header))
-shape_wrong table row (shape.Row place) bytes =
-    option_or (place_wrong table place bytes) (row_wrong table row bytes)
-shape_wrong table row s bytes = row_wrong table row bytes
-
--- ---- the first violation
 
 -- where it is, and what
 abbrev pub Where : Type 0
@@ -129,43 +42,242 @@ abbrev pub check_view : Result (Unit {0}) Violation → Option Where
 check_view (Ok _) = None
 check_view (Err violation) = Some (violation_view violation)
 
-abbrev pub row_of : Option Step → Option ℕ
-row_of None = None
-row_of (Some step) = step.row
+-- a list: what its attributes are, or those of its hops; whether it has hops; its bytes
+abbrev pub ListSeen : Type 0
+ListSeen = Nest × Bool × List ℕ
 
--- the row of the attribute at a path
-abbrev pub last_row : List Step → Option ℕ
-last_row steps = row_of (slice_get steps (length steps - 1))
+abbrev pub listed_view : Listed → ListSeen
+listed_view list = (list.nest, list.is_hops, list.bytes.now)
 
--- what is wrong at an item of a walk
-abbrev pub wrong_of : Lines → Seen → Option Wrong
-wrong_of table (path, Ok (kind, payload, s)) = shape_wrong table (last_row path) s payload
-wrong_of table (path, Err (bytes, error)) = Some (wrong.Rest (length bytes))
+-- a list in an entry, and the parser that goes through it
+abbrev pub Inner : Type 0
+Inner = Validation × ListSeen
 
-abbrev pub violation_or : List Step → Option Wrong → Option Where → Option Where
-violation_or path None later = later
-violation_or path (Some w) later = Some (path, w)
+abbrev pub inner_view : Validation × Listed → Inner
+inner_view inner = (inner.0, listed_view inner.1)
 
--- the first of these items at which something is wrong
-abbrev pub items_violation : Lines → List Seen → Option Where
-items_violation table [] = None
-items_violation table (item ∷ items) =
-    violation_or item.0 (wrong_of table item) (items_violation table items)
+-- what an entry is found to be: wrong, or a list, or neither
+abbrev pub found_view : Result (Option (Validation × Listed)) Wrong → Result (Option Inner) Wrong
+found_view (Ok inner) = Ok (option_map inner_view inner)
+found_view (Err w) = Err w
 
-abbrev pub walk_violation : Lines → Option (List Seen) → Option Where
-walk_violation table None = None
-walk_violation table (Some items) = items_violation table items
+-- ---- an attribute
 
-abbrev pub violation_by : Option Lines → BodySeen → Option Where
-violation_by None body = None
-violation_by (Some table) body =
-    violation_or [] (shape_wrong table body.1 (body_shape body) body.3)
-    (walk_violation table (body_items body))
+abbrev pub is_from : Option ℕ → ℕ → Bool
+is_from None number = false
+is_from (Some first) number = nat_le first number
 
--- what is wrong with a body: with its own bytes, or else with the first attribute; with what no
--- table has, nothing
+abbrev pub strict_if : Bool → Validation
+strict_if true = Strict
+strict_if false = Liberal
+
+abbrev pub parser_with : Validation → Option Options → ℕ → Validation
+parser_with Strict o number = Strict
+parser_with Liberal None number = Liberal
+parser_with Liberal (Some o) number = strict_if (is_from o.strict_from number)
+
+-- the parser of an attribute: from the number on that its set states, the strict one
+abbrev pub parser_of : Lines → Validation → ℕ → ℕ → Validation
+parser_of table v set number = parser_with v (line_options table set) number
+
+abbrev pub picked : Lines → ℕ → ℕ → Option (List ℕ) → Option ℕ
+picked table choice by None = place_of (rest_key choice) table
+picked table choice by (Some bytes) = picked_as table choice (kind_at table by) bytes
+
+abbrev pub number_at : Option LineSeen → Option ℕ
+number_at None = None
+number_at (Some line) = option_map (λ span. span.first) line.span
+
+abbrev pub is_place : ℕ → Option ℕ → Bool
+is_place place None = false
+is_place place (Some other) = other == place
+
+-- the case that the last attribute of this number picks; none where the number means another row here
+abbrev pub picked_by : Lines → ListSeen → ℕ → ℕ → Option ℕ → Option ℕ
+picked_by table list choice by None = None
+picked_by table list choice by (Some number) =
+    if is_place by (row_in table list.0.set number)
+    then picked table choice by (last_payload number list.2) else None
+
+abbrev pub picked_in : Lines → ListSeen → ℕ → Option ℕ → Option ℕ
+picked_in table list choice None = None
+picked_in table list choice (Some by) =
+    picked_by table list choice by (number_at (slice_get table by))
+
+abbrev pub chosen_of : ContextSeen → ListSeen → Options → Option ℕ → Option ℕ
+chosen_of context list o None = None
+chosen_of context list o (Some choice) =
+    if o.by_family then row_in context.0 choice context.1
+    else picked_in context.0 list choice o.by
+
+abbrev pub line_by : ContextSeen → ListSeen → ℕ → Options → Option Kind → Option ℕ
+line_by context list row o (Some kind.Choice) = chosen_of context list o o.of
+line_by context list row o k = Some row
+
+-- the place of the line that says what an attribute is: its row, or the case that its choice picks
+abbrev pub line_of : ContextSeen → ListSeen → ℕ → Options → Option ℕ
+line_of context list row o = line_by context list row o o.kind
+
+-- a parser keeps the last of equal attributes, so the liberal one, which looks into no nest before all are read, only
+-- sees that one's
+abbrev pub is_kept : Validation → Options → List ℕ → List ℕ → Bool
+is_kept Strict o entry rest = true
+is_kept Liberal o entry rest = o.multi || not (is_some (last_payload (entry_number entry) rest))
+
+abbrev pub inner_of : Validation → Shape → List ℕ → Option Inner
+inner_of v (shape.Nest nest) payload = Some (v, (nest, false, drop (align nest.header) payload))
+inner_of v (shape.Hops nest) payload = Some (v, (nest, true, payload))
+inner_of v s payload = None
+
+abbrev pub unless_wrong : Option Wrong → Option Inner → Result (Option Inner) Wrong
+unless_wrong None inner = Ok inner
+unless_wrong (Some w) inner = Err w
+
+-- what is wrong with an attribute itself
+abbrev pub attribute_wrong : Validation → ContextSeen → Word → Options → Shape → List ℕ → Option Wrong
+attribute_wrong v context w o s entry =
+    option_or (flag_wrong v w o.kind s (is_flagged entry))
+    (option_or (shape_wrong v context s (drop 4 entry)) (length_wrong o (drop 4 entry)))
+
+abbrev pub shape_found : Validation → ContextSeen → Word → Options → Shape → List ℕ → List ℕ
+    → Result (Option Inner) Wrong
+shape_found v context w o s entry rest =
+    unless_wrong (attribute_wrong v context w o s entry)
+    (if is_kept v o entry rest then inner_of v s (drop 4 entry) else None)
+
+abbrev pub line_found : Validation → ContextSeen → ListSeen → ℕ → Option LineSeen → List ℕ → List ℕ
+    → Result (Option Inner) Wrong
+line_found v context list row None entry rest = Ok None
+line_found v context list row (Some line) entry rest =
+    shape_found v context line.word (options_of line)
+    (case_shape context.0 (line_of context list row (options_of line)) (drop 4 entry)) entry rest
+
+abbrev pub unknown_found : Validation → Result (Option Inner) Wrong
+unknown_found Strict = Err wrong.Unknown
+unknown_found Liberal = Ok None
+
+-- an attribute without a row is one that the kernel does not know
+abbrev pub row_found : Validation → ContextSeen → ListSeen → Option ℕ → List ℕ → List ℕ
+    → Result (Option Inner) Wrong
+row_found v context list None entry rest = unknown_found v
+row_found v context list (Some row) entry rest =
+    line_found (parser_of context.0 v list.0.set (entry_number entry)) context list row
+    (slice_get context.0 row) entry rest
+
+-- ---- an entry of a list, before this rest of it
+
+abbrev pub entry_row : ContextSeen → ListSeen → List ℕ → Option ℕ
+entry_row context list entry = row_in context.0 list.0.set (entry_number entry)
+
+-- a hop is its structure, and attributes
+abbrev pub hop_found : Validation → Nest → List ℕ → Result (Option Inner) Wrong
+hop_found v nest entry = Ok (inner_of v (shape.Nest nest) entry)
+
+abbrev pub entry_found : Validation → ContextSeen → ListSeen → List ℕ → List ℕ
+    → Result (Option Inner) Wrong
+entry_found v context list entry rest =
+    if list.1 then hop_found v list.0 entry
+    else row_found v context list (entry_row context list entry) entry rest
+
+-- the part of a path that it is
+abbrev pub entry_step : ContextSeen → ListSeen → List ℕ → Step
+entry_step context list entry =
+    if list.1 then record { number = None; row = None }
+    else record { number = Some (entry_number entry); row = entry_row context list entry }
+
+-- ---- a list
+
+-- a hop states its length in its first two bytes, and is padded as an attribute is
+abbrev pub front_of : ListSeen → ℕ
+front_of list = if list.1 && nat_lt 4 list.0.header then list.0.header else 4
+
+-- bytes that are no entry, behind all: the liberal parser takes them behind attributes
+abbrev pub rest_wrong : Validation → ListSeen → List Step → List ℕ → Option Where
+rest_wrong v list path [] = None
+rest_wrong Strict list path bytes = Some (path, wrong.Rest (length bytes))
+rest_wrong Liberal list path bytes =
+    if list.1 then Some (path, wrong.Rest (length bytes)) else None
+
+-- how a list in an entry goes through, if ten are not open yet
+abbrev pub Deeper : Type 0
+Deeper = Option (Validation → List Step → ListSeen → Option Where)
+
+abbrev pub enter : Deeper → List Step → Inner → Option Where
+enter None path inner = Some (path, wrong.Deep)
+enter (Some deeper) path inner = deeper inner.0 path inner.1
+
+abbrev pub found_wrong : Deeper → List Step → Result (Option Inner) Wrong → Option Where
+found_wrong deeper path (Err w) = Some (path, w)
+found_wrong deeper path (Ok None) = None
+found_wrong deeper path (Ok (Some inner)) = enter deeper path inner
+
+abbrev pub entry_wrong : Deeper → ContextSeen → Validation → List Step → ListSeen → List ℕ → List ℕ
+    → Option Where
+entry_wrong deeper context v path list entry rest =
+    found_wrong deeper (path ++ entry_step context list entry ∷ [])
+    (entry_found v context list entry rest)
+
+abbrev pub sized_wrong : Deeper → ContextSeen → Validation → List Step → ListSeen → Option ℕ → List ℕ
+    → (List ℕ → Option Where) → Option Where
+sized_wrong deeper context v path list None bytes later = rest_wrong v list path bytes
+sized_wrong deeper context v path list (Some size) bytes later =
+    option_or (entry_wrong deeper context v path list (take size bytes) (behind size bytes))
+    (later (behind size bytes))
+
+-- the first that is wrong in what is left of a list, among at most so many entries
+unfoldable pub left_wrong : Deeper → ContextSeen → Validation → List Step → ListSeen → ℕ → List ℕ
+    → Option Where
+left_wrong deeper context v path list zero bytes = rest_wrong v list path bytes
+left_wrong deeper context v path list (suc count) bytes =
+    sized_wrong deeper context v path list (entry_size (front_of list) bytes) bytes
+    (left_wrong deeper context v path list count)
+
+-- the same of a whole list: it has fewer entries than bytes
+abbrev pub whole_wrong : Deeper → ContextSeen → Validation → List Step → ListSeen → Option Where
+whole_wrong deeper context v path list =
+    left_wrong deeper context v path list (length list.2) list.2
+
+-- the same of a list and those in it, of which so many may be open beside it
+unfoldable pub list_wrong : ContextSeen → ℕ → Validation → List Step → ListSeen → Option Where
+list_wrong context zero v path list = whole_wrong None context v path list
+list_wrong context (suc depth) v path list =
+    whole_wrong (Some (list_wrong context depth)) context v path list
+
+-- how lists in one go through, beside which so many may be open
+abbrev pub deeper_at : ContextSeen → ℕ → Deeper
+deeper_at context zero = None
+deeper_at context (suc depth) = Some (list_wrong context depth)
+
+-- ---- a body
+
+abbrev pub shaped_wrong : Validation → ContextSeen → Shape → List ℕ → Option Where
+shaped_wrong v context (shape.Nest nest) bytes =
+    list_wrong context 9 v [] (nest, false, drop (align nest.header) bytes)
+shaped_wrong v context s bytes = option_map (λ w. ([], w)) (shape_wrong v context s bytes)
+
+abbrev pub body_wrong : Validation → Option ContextSeen → Shape → List ℕ → Option Where
+body_wrong v None s bytes = None
+body_wrong v (Some context) s bytes = shaped_wrong v context s bytes
+
+-- what this parser refuses first of a body: nothing where no table has its message
+abbrev pub violation_by : Validation → BodySeen → Option Where
+violation_by v body = body_wrong v (body_context body) (body_shape body) body.3
+
+abbrev pub is_strict : Option Options → Bool
+is_strict None = false
+is_strict (Some o) = o.strict
+
+abbrev pub line_validation : Option Lines → Option ℕ → Validation
+line_validation (Some table) (Some line) = strict_if (is_strict (line_options table line))
+line_validation table line = Liberal
+
+-- the parser that the kernel reads a message by, as the line of the message says
+abbrev pub validation_of : BodySeen → Validation
+validation_of body = line_validation body.0 body.1
+
+-- what that parser refuses first
 abbrev pub violation_in : BodySeen → Option Where
-violation_in body = violation_by body.0 body
+violation_in body = violation_by (validation_of body) body
 
 -- ---- in words
 
@@ -177,6 +289,10 @@ wrong_text (wrong.Length span) =
 wrong_text (wrong.Range span) =
     codes "not from " ++ (decimal span.first ++ (codes " to " ++ decimal span.last))
 wrong_text (wrong.Mask mask) = codes "bits that are not in 0x" ++ digits 16 false mask
+wrong_text wrong.Unselected = codes "bits that are not selected"
+wrong_text wrong.Unknown = codes "unknown attribute"
+wrong_text wrong.NotNested = codes "NLA_F_NESTED is missing"
+wrong_text wrong.Nested = codes "NLA_F_NESTED not expected"
 wrong_text wrong.Deep = codes "a nest in too many"
 wrong_text (wrong.Rest count) = decimal count ++ codes " bytes after the attributes"
 

@@ -1,7 +1,7 @@
 //! A message's attributes against its family's table, and the attribute at an offset.
 //!
-//! - [`check`]: the first attribute of a body that its row does not allow, as before a request is
-//!   sent.
+//! - [`check_as`]: the first attribute of a body that a parser of the kernel, the strict or the liberal one
+//!   ([`Validation`]), does not allow, as before a request is sent; [`check`] by the one that reads such a message.
 //! - [`find`]: the path to the attribute at an offset of a message, as an extended acknowledgement
 //!   states it.
 //! - [`Place`], [`PathText`]: a path that is printed by the names of the table, as
@@ -10,9 +10,13 @@
 //!   attribute of the request that it is about.
 #![tactic(auto)]
 
+mod cut;
+mod found;
+mod listed;
 mod offset;
 mod place;
 mod refusal;
+mod validation;
 mod values;
 mod violation;
 mod wrong;
@@ -20,5 +24,6 @@ mod wrong;
 pub use offset::find;
 pub use place::{PathText, Place};
 pub use refusal::Refusal;
-pub use violation::{Violation, check};
+pub use validation::Validation;
+pub use violation::{Violation, check, check_as, validation_of};
 pub use wrong::Wrong;

@@ -1,60 +1,226 @@
-//! A payload against its row.
+//! A payload against the line that says what it is.
 
-ghost use Rattle.std.specs.Prelude.{◌≡◌};
-ghost use Rattle.neli_tables_check.specs.Violations.{is_outside, is_within, length_wrong};
-ghost use Rattle.neli_tables_check.specs.Violations.{mask_wrong, place_wrong};
-ghost use Rattle.neli_tables_check.specs.Violations.{range_wrong, row_wrong, shape_wrong};
-ghost use Rattle.neli_tables_check.specs.Violations.{text_length, values_wrong};
+ghost use Rattle.std.specs.Prelude.{◌≡◌, ◌≤◌, ◌==◌, length, take};
+ghost use Rattle.std.specs.List.{position};
+ghost use Rattle.neli_tables_walk.specs.Shapes.{context_view};
+ghost use Rattle.neli_tables_check.specs.Parsers.{bits_wrong, breach_wrong, family_breach, flag_wrong};
+ghost use Rattle.neli_tables_check.specs.Parsers.{form_wrong, is_flat, is_outside, is_within, kind_wrong, least_breach};
+ghost use Rattle.neli_tables_check.specs.Parsers.{length_wrong, mask_wrong, nest_wrong, pad_wrong, place_wrong};
+ghost use Rattle.neli_tables_check.specs.Parsers.{range_wrong, shape_flag_wrong, shape_wrong, taken_by};
+ghost use Rattle.neli_tables_check.specs.Parsers.{text_length, unselected, values_wrong, zero_breach};
+ghost use Rattle.neli_tables_walk.specs.Breaches.{size_breach};
 
-use crate::Wrong;
-use neli_tables::{Kind, Options, Span, Table, options_of};
+use crate::{Validation, Wrong};
+use byteorder::{ByteOrder, LittleEndian};
+use neli_tables::{Kind, Options, Span, Word};
 use neli_tables_walk::{
-    Breach, Number, Payload, Shape, breach_of, number_in, width_of, without_zero,
+    Breach, Context, Number, Payload, Shape, breach_of, number_in, width_of, without_zero,
 };
 
-/// What the rows of a payload do not allow: that of its attribute, and what its shape says.
+/// The families of addresses of 4 and of 16 bytes (`AF_INET`, `AF_INET6` of `linux/socket.h`).
+const INET: u8 = 2;
+
+const INET6: u8 = 10;
+
+/// The size of a `struct nla_bitfield32`.
+const BITS_SIZE: usize = 8;
+
+/// The size of a `struct sockaddr_in`, the shorter one.
+const SOCKET_SIZE: usize = 16;
+
+/// What a parser does not allow of a payload of this shape.
 pub fn shape_wrong(
-    table: &Table<'_>,
-    row: Option<usize>,
+    validation: Validation,
+    context: &Context<'_, '_>,
     shape: Shape,
     bytes: &[u8],
 ) -> Option<Wrong>
-    ensures { result ≡ shape_wrong table.now row shape bytes.now }
+    ensures { result ≡ shape_wrong validation (context_view context.now) shape bytes.now }
 {
     match shape {
-        Shape::Deep(_) => Some(Wrong::Deep),
+        Shape::Row(place) => place_wrong(validation, context, place, bytes),
+        Shape::Nest(nest) => nest_wrong(nest.header, bytes),
         Shape::Short(nest) => Some(Wrong::Kind(Breach::Shorter(nest.header))),
-        Shape::Row(place) => match place_wrong(table, place, bytes) {
-            Some(wrong) => Some(wrong),
-            None => row_wrong(table, row, bytes),
-        },
-        _ => row_wrong(table, row, bytes),
+        _ => None,
     }
 }
 
-/// What the length that the row of an attribute states does not allow.
-fn row_wrong(table: &Table<'_>, row: Option<usize>, bytes: &[u8]) -> Option<Wrong>
-    ensures { result ≡ row_wrong table.now row bytes.now }
+/// What a nest lacks that has bytes, but not the header of an attribute.
+fn nest_wrong(header: usize, bytes: &[u8]) -> Option<Wrong>
+    ensures { result ≡ nest_wrong header bytes.now }
 {
-    length_wrong(&options_of(table.line(row?)?), bytes)
+    if header == 0 && 0 < bytes.len() {
+        breach_wrong(least_breach(4, bytes))
+    } else {
+        None
+    }
 }
 
 /// What the line at this place does not allow.
-fn place_wrong(table: &Table<'_>, place: usize, bytes: &[u8]) -> Option<Wrong>
-    ensures { result ≡ place_wrong table.now place bytes.now }
+fn place_wrong(
+    validation: Validation,
+    context: &Context<'_, '_>,
+    place: usize,
+    bytes: &[u8],
+) -> Option<Wrong>
+    ensures { result ≡ place_wrong validation (context_view context.now) place bytes.now }
 {
-    let payload = Payload {
-        table,
+    let options = context.table.options(place)?;
+    let breach = breach_of(&Payload {
+        table: context.table,
         place,
         bytes,
-    };
-    if let Some(breach) = breach_of(&payload) {
-        return Some(Wrong::Kind(breach));
+    });
+    if let Some(wrong) = form_wrong(validation, context.family, options, breach, bytes) {
+        return Some(wrong);
     }
-    let options = options_of(table.line(place)?);
-    match length_wrong(&options, bytes) {
+    match length_wrong(options, bytes) {
         Some(wrong) => Some(wrong),
-        None => values_wrong(&options, bytes),
+        None => values_wrong(options, bytes),
+    }
+}
+
+/// How a payload is not as its options say, where this is how it cannot be printed so.
+fn form_wrong(
+    validation: Validation,
+    family: u8,
+    options: &Options,
+    breach: Option<Breach>,
+    bytes: &[u8],
+) -> Option<Wrong>
+    ensures { result ≡ form_wrong validation family options.now breach bytes.now }
+{
+    if options.array {
+        breach_wrong(breach)
+    } else {
+        kind_wrong(validation, family, options.kind, breach, bytes)
+    }
+}
+
+/// The same by its kind.
+fn kind_wrong(
+    validation: Validation,
+    family: u8,
+    kind: Option<Kind>,
+    breach: Option<Breach>,
+    bytes: &[u8],
+) -> Option<Wrong>
+    ensures { result ≡ kind_wrong validation family kind breach bytes.now }
+{
+    match kind {
+        Some(Kind::Text) => breach_wrong(least_breach(1, bytes)),
+        Some(Kind::Ztext) => breach_wrong(zero_breach(bytes)),
+        Some(Kind::Address) => breach_wrong(taken_by(validation, family_breach(family, bytes))),
+        Some(Kind::Sockaddr) => breach_wrong(least_breach(SOCKET_SIZE, bytes)),
+        Some(Kind::Bits) => bits_wrong(breach, bytes),
+        Some(Kind::Pad) => pad_wrong(validation),
+        Some(Kind::Flag | Kind::Uint | Kind::Sint) => breach_wrong(breach),
+        _ => breach_wrong(taken_by(validation, breach)),
+    }
+}
+
+/// What a parser refuses of this: the liberal one takes a payload that is too long.
+fn taken_by(validation: Validation, breach: Option<Breach>) -> Option<Breach>
+    ensures { result ≡ taken_by validation breach }
+{
+    match (validation, breach) {
+        (Validation::Liberal, Some(Breach::Longer(_))) => None,
+        _ => breach,
+    }
+}
+
+/// What is wrong with a payload that cannot be of its kind.
+fn breach_wrong(breach: Option<Breach>) -> Option<Wrong>
+    ensures { result ≡ breach_wrong breach }
+{
+    match breach {
+        Some(breach) => Some(Wrong::Kind(breach)),
+        None => None,
+    }
+}
+
+/// How bytes are fewer than these.
+fn least_breach(size: usize, bytes: &[u8]) -> Option<Breach>
+    ensures { result ≡ least_breach size bytes.now }
+{
+    if bytes.len() < size {
+        Some(Breach::Shorter(size))
+    } else {
+        None
+    }
+}
+
+/// How bytes are not of this size.
+fn size_breach(size: usize, bytes: &[u8]) -> Option<Breach>
+    ensures { result ≡ size_breach size bytes.now }
+{
+    if size < bytes.len() {
+        Some(Breach::Longer(size))
+    } else {
+        least_breach(size, bytes)
+    }
+}
+
+/// How bytes are no address of a family.
+fn family_breach(family: u8, bytes: &[u8]) -> Option<Breach>
+    ensures { result ≡ family_breach family bytes.now }
+{
+    match family {
+        INET => size_breach(4, bytes),
+        INET6 => size_breach(16, bytes),
+        _ => None,
+    }
+}
+
+/// How bytes are no text with a zero.
+fn zero_breach(bytes: &[u8]) -> Option<Breach>
+    ensures { result ≡ zero_breach bytes.now }
+{
+    match zero_in(bytes) {
+        Some(_) => None,
+        None => Some(Breach::NoZero),
+    }
+}
+
+/// The index of the first zero.
+fn zero_in(bytes: &[u8]) -> Option<usize>
+    ensures { result ≡ position (λ b. b == 0) bytes.now }
+{
+    bytes.iter().position(|byte| *byte == 0)
+}
+
+/// What is wrong with bits, where they may be no `struct nla_bitfield32`.
+fn bits_wrong(breach: Option<Breach>, bytes: &[u8]) -> Option<Wrong>
+    ensures { result ≡ bits_wrong breach bytes.now }
+{
+    match breach {
+        Some(breach) => Some(Wrong::Kind(breach)),
+        None if bytes.len() == BITS_SIZE => unselected(bytes),
+        None => None,
+    }
+}
+
+/// What is wrong with bits, behind which those stand that they select.
+fn unselected(bytes: &[u8]) -> Option<Wrong>
+    requires { 8 ≤ length bytes.now }
+    ensures { result ≡ unselected bytes.now }
+{
+    let bits = LittleEndian::read_u32(&bytes[..4]);
+    let selected = LittleEndian::read_u32(&bytes[4..8]);
+    if bits & selected == bits {
+        None
+    } else {
+        Some(Wrong::Unselected)
+    }
+}
+
+/// What a parser makes of bytes without a meaning.
+fn pad_wrong(validation: Validation) -> Option<Wrong>
+    ensures { result ≡ pad_wrong validation }
+{
+    match validation {
+        Validation::Strict => Some(Wrong::Unknown),
+        Validation::Liberal => None,
     }
 }
 
@@ -76,7 +242,7 @@ fn is_within(span: Span, number: u64) -> bool
 }
 
 /// The length that options do not allow.
-fn length_wrong(options: &Options, bytes: &[u8]) -> Option<Wrong>
+pub fn length_wrong(options: &Options, bytes: &[u8]) -> Option<Wrong>
     ensures { result ≡ length_wrong options.now bytes.now }
 {
     let span = options.length?;
@@ -84,6 +250,17 @@ fn length_wrong(options: &Options, bytes: &[u8]) -> Option<Wrong>
         None
     } else {
         Some(Wrong::Length(span))
+    }
+}
+
+/// At most so many bytes, those at the front.
+fn first_of(size: usize, bytes: &[u8]) -> &[u8]
+    ensures { result.now ≡ take size bytes.now }
+{
+    if size < bytes.len() {
+        &bytes[..size]
+    } else {
+        bytes
     }
 }
 
@@ -95,7 +272,7 @@ fn values_wrong(options: &Options, bytes: &[u8]) -> Option<Wrong>
         return None;
     }
     let width = width_of(options.kind?, bytes.len())?;
-    let number = number_in(width, bytes)?;
+    let number = number_in(width, first_of(width.size, bytes))?;
     match range_wrong(options.range, number) {
         Some(wrong) => Some(wrong),
         None => mask_wrong(options.mask, number),
@@ -133,5 +310,43 @@ fn is_outside(span: Span, number: Number) -> bool
     match number.signed {
         Some(signed) if signed < 0 => true,
         _ => !is_within(span, number.bits),
+    }
+}
+
+/// Whether a policy says of a kind that it is no nest.
+fn is_flat(kind: Option<Kind>) -> bool
+    ensures { result ≡ is_flat kind }
+{
+    match kind {
+        None | Some(Kind::Nest | Kind::Hops | Kind::Choice | Kind::Bytes | Kind::Pad) => false,
+        Some(_) => true,
+    }
+}
+
+/// What a parser does not allow of an attribute with the flag of a nest, or without.
+pub fn flag_wrong(
+    validation: Validation,
+    word: Word,
+    kind: Option<Kind>,
+    shape: Shape,
+    flagged: bool,
+) -> Option<Wrong>
+    ensures { result ≡ flag_wrong validation word kind shape flagged }
+{
+    match (validation, word) {
+        (Validation::Strict, Word::Attr) => shape_flag_wrong(kind, shape, flagged),
+        _ => None,
+    }
+}
+
+/// The same of the strict parser.
+fn shape_flag_wrong(kind: Option<Kind>, shape: Shape, flagged: bool) -> Option<Wrong>
+    ensures { result ≡ shape_flag_wrong kind shape flagged }
+{
+    match shape {
+        Shape::Nest(nest) if nest.header == 0 && !flagged => Some(Wrong::NotNested),
+        Shape::Nest(_) => None,
+        _ if flagged && is_flat(kind) => Some(Wrong::Nested),
+        _ => None,
     }
 }

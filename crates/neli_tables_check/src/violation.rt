@@ -1,19 +1,23 @@
 //! Checks a body by its table.
 
-ghost use Rattle.std.specs.Prelude.{◌≡◌, Some};
+ghost use Rattle.std.specs.Prelude.{◌≡◌, ◌≤◌, ◌+◌, ◌-◌, IfErr, IfOk, IfSome, IsNone, None, Some, length};
+ghost use Rattle.std.specs.Option.{option_map};
 ghost use Rattle.neli_tables_walk.specs.Bodies.{body_view};
-ghost use Rattle.neli_tables_walk.specs.Walks.{item_view};
-ghost use Rattle.neli_tables_check.specs.Violations.{check_view, items_violation, last_row};
-ghost use Rattle.neli_tables_check.specs.Violations.{violation_in, violation_view, violation_text};
-ghost use Rattle.neli_tables_check.specs.Violations.{wrong_of};
+ghost use Rattle.neli_tables_walk.specs.Shapes.{context_view, line_options};
+ghost use Rattle.neli_tables_check.specs.Violations.{check_view, deeper_at, entry_wrong, is_strict, list_wrong, listed_view, rest_wrong};
+ghost use Rattle.neli_tables_check.specs.Violations.{shaped_wrong, validation_of, violation_by, violation_in};
+ghost use Rattle.neli_tables_check.specs.Violations.{violation_text, violation_view};
 
+use crate::cut::{behind, entry_size};
+use crate::found::{Entry, Reader};
+use crate::listed::{Listed, attributes_of};
 use crate::values::shape_wrong;
-use crate::{Place, Wrong};
+use crate::{Place, Validation, Wrong};
 use neli_tables::Table;
-use neli_tables_walk::{Body, Item, Path, Step, Walk};
+use neli_tables_walk::{Body, Context, MAX_DEPTH, Path, Shape};
 use std::fmt;
 
-/// The first attribute that its row does not allow, and what that is.
+/// The first attribute that a parser does not allow, and what that is.
 #[derive(Drop)]
 pub struct Violation<'w, 't> {
     /// The attribute, or the nest whose attributes bytes follow; without steps the body.
@@ -32,23 +36,71 @@ impl fmt::Display for Violation<'_, '_> {
     }
 }
 
-/// Checks that the attributes of a body are as their rows say, as those of a request before it is
-/// sent. What has no row passes, as a message without a line.
+/// The parser by which the kernel reads the message of a body, as the table says: the strict one where its line has
+/// `strict`.
+pub fn validation_of(body: &Body<'_, '_, '_>) -> Validation
+    ensures { result ≡ validation_of (body_view body.now) }
+{
+    match (body.table, body.line) {
+        (Some(table), Some(line)) if is_strict(table, line) => Validation::Strict,
+        _ => Validation::Liberal,
+    }
+}
+
+/// Whether the line at this place has `strict`.
+fn is_strict(table: &Table<'_>, line: usize) -> bool
+    ensures { result ≡ is_strict (line_options table.now line) }
+{
+    match table.options(line) {
+        Some(options) => options.strict,
+        None => false,
+    }
+}
+
+/// Checks a body as the parser does by which the kernel reads its message: [`check_as`] by [`validation_of`].
 ///
-/// Refused with the first violation, in the order of a walk: the body's own first.
+/// Refused with the first violation, in the order of the bytes.
 pub fn check<'w, 't>(body: &Body<'_, 'w, 't>) -> Result<(), Violation<'w, 't>>
     ensures { check_view result ≡ violation_in (body_view body.now) }
 {
-    let Some(table) = body.table else {
+    check_as(body, validation_of(body))
+}
+
+/// Checks that the attributes of a body are as their rows say, as a parser of the kernel does with those of a request.
+/// What no table has passes, as a message without a line.
+///
+/// Refused with the first violation, in the order of the bytes: of nests the outer one first.
+pub fn check_as<'w, 't>(
+    body: &Body<'_, 'w, 't>,
+    validation: Validation,
+) -> Result<(), Violation<'w, 't>>
+    ensures { check_view result ≡ violation_by validation (body_view body.now) }
+{
+    let Some(context) = body.context() else {
         return Ok(());
     };
-    if let Some(wrong) = shape_wrong(table, body.line, body.shape(), body.bytes) {
-        return Err(violation_at(table, Path::default(), wrong));
-    }
-    match body.walk() {
-        Some(walk) => check_items(table, walk),
+    match shaped_violation(&context, validation, body.shape(), body.bytes) {
+        Some(violation) => Err(violation),
         None => Ok(()),
     }
+}
+
+/// The violation of a body of this shape.
+fn shaped_violation<'w, 't>(
+    context: &Context<'w, 't>,
+    validation: Validation,
+    shape: Shape,
+    bytes: &[u8],
+) -> Option<Violation<'w, 't>>
+    ensures { option_map violation_view result
+        ≡ shaped_wrong validation (context_view context.now) shape bytes.now }
+{
+    let path = Path::default();
+    if let Shape::Nest(nest) = shape {
+        return list_violation(context, validation, path, attributes_of(nest, bytes));
+    }
+    let wrong = shape_wrong(validation, context, shape, bytes)?;
+    Some(violation_at(context.table, path, wrong))
 }
 
 /// A violation at a path.
@@ -59,37 +111,117 @@ fn violation_at<'w, 't>(table: &'w Table<'t>, path: Path, wrong: Wrong) -> Viola
     Violation { place, wrong }
 }
 
-/// Checks the items of a walk.
-fn check_items<'w, 't>(
-    table: &'w Table<'t>,
-    walk: Walk<'_, 'w, 't>,
-) -> Result<(), Violation<'w, 't>>
-    ensures { check_view result ≡ items_violation table.now walk.entry }
+/// The violation of a list at a path, or of those in it.
+#[tactic(auto, using(crate::proofs::Steps::left_none, crate::proofs::Steps::left_zero, crate::proofs::Steps::left_some, crate::proofs::Steps::left_next, crate::proofs::Steps::list_left))]
+fn list_violation<'w, 't>(
+    context: &Context<'w, 't>,
+    validation: Validation,
+    path: Path,
+    list: Listed<'_>,
+) -> Option<Violation<'w, 't>>
+    requires { length path.steps.items ≤ 9 }
+    ensures { option_map violation_view result
+        ≡ list_wrong (context_view context.now) (9 - length path.steps.items) validation
+        path.steps.items (listed_view list.entry) }
 {
-    for item in walk {
-        if let Some(wrong) = wrong_of(table, &item) {
-            return Err(violation_at(table, item.path, wrong));
+    let reader = Reader {
+        context,
+        validation,
+        list,
+    };
+    let (mut left, mut bytes) = (list.bytes.len(), list.bytes);
+    while 0 < left {
+        let Some(size) = entry_size(list.front(), bytes) else {
+            return rest_violation(&reader, path, bytes);
+        };
+        let rest = behind(size, bytes);
+        let entry = Entry {
+            bytes: &bytes[..size],
+            rest,
+        };
+        match judged(&reader, &path, &entry) {
+            Err(violation) => return Some(violation),
+            Ok(None) => {}
+            Ok(Some(inner)) => {
+                match list_violation(context, inner.validation, inner.path, inner.list) {
+                    Some(violation) => return Some(violation),
+                    None => {}
+                }
+            }
         }
+        bytes = rest;
+        left -= 1;
     }
-    Ok(())
+    rest_violation(&reader, path, bytes)
 }
 
-/// The row of the attribute that a path leads to.
-fn last_row(steps: &[Step]) -> Option<usize>
-    ensures { result ≡ last_row steps.now }
-{
-    steps.last()?.row
+/// A list in another: its path, and the parser that goes through it.
+#[derive(Drop)]
+struct Inner<'b> {
+    path: Path,
+    validation: Validation,
+    list: Listed<'b>,
 }
 
-/// What is wrong at an item, if something is.
-fn wrong_of(table: &Table<'_>, item: &Item<'_>) -> Option<Wrong>
-    ensures { result ≡ wrong_of table.now (item_view item.now) }
+/// What an entry of a list at a path is: a violation, a list, or neither.
+fn judged<'b, 'w, 't>(
+    reader: &Reader<'_, 'w, 't, 'b>,
+    path: &Path,
+    entry: &Entry<'b>,
+) -> Result<Option<Inner<'b>>, Violation<'w, 't>>
+    requires size { 4 ≤ length entry.now.bytes.now }
+    requires depth { length path.now.steps.items ≤ 9 }
+    ensures wrong { IfErr result (λ violation.
+        entry_wrong (deeper_at (context_view reader.now.context.now) (9 - length path.now.steps.items))
+        (context_view reader.now.context.now) reader.now.validation path.now.steps.items
+        (listed_view reader.now.list) entry.now.bytes.now entry.now.rest.now
+        ≡ Some (violation_view violation)) }
+    ensures fine { IfOk result (λ inner. IsNone inner
+        → entry_wrong (deeper_at (context_view reader.now.context.now) (9 - length path.now.steps.items))
+        (context_view reader.now.context.now) reader.now.validation path.now.steps.items
+        (listed_view reader.now.list) entry.now.bytes.now entry.now.rest.now ≡ None) }
+    ensures inner { IfOk result (λ inner. IfSome inner (λ it.
+        entry_wrong (deeper_at (context_view reader.now.context.now) (9 - length path.now.steps.items))
+        (context_view reader.now.context.now) reader.now.validation path.now.steps.items
+        (listed_view reader.now.list) entry.now.bytes.now entry.now.rest.now
+        ≡ list_wrong (context_view reader.now.context.now) (9 - length it.path.steps.items) it.validation
+        it.path.steps.items (listed_view it.list))) }
+    ensures deeper { IfOk result (λ inner. IfSome inner (λ it.
+        (length it.path.steps.items ≡ length path.now.steps.items + 1)
+        × (length it.path.steps.items ≤ 9))) }
 {
-    match &item.content {
-        Ok(found) => {
-            let row = last_row(item.path.steps());
-            shape_wrong(table, row, found.shape, found.payload)
+    let inside = path.then(reader.step(entry));
+    match reader.found(entry) {
+        Err(wrong) => Err(violation_at(reader.context.table, inside, wrong)),
+        Ok(None) => Ok(None),
+        Ok(Some((validation, list))) => {
+            if inside.steps().len() == MAX_DEPTH {
+                return Err(violation_at(reader.context.table, inside, Wrong::Deep));
+            }
+            Ok(Some(Inner {
+                path: inside,
+                validation,
+                list,
+            }))
         }
-        Err(rest) => Some(Wrong::Rest(rest.bytes.len())),
     }
+}
+
+/// The violation of bytes behind the entries of a list.
+fn rest_violation<'w, 't>(
+    reader: &Reader<'_, 'w, 't, '_>,
+    path: Path,
+    bytes: &[u8],
+) -> Option<Violation<'w, 't>>
+    ensures { option_map violation_view result ≡ rest_wrong reader.now.validation
+        (listed_view reader.now.list) path.steps.items bytes.now }
+{
+    if bytes.is_empty() {
+        return None;
+    }
+    if reader.validation == Validation::Liberal && !reader.list.is_hops {
+        return None;
+    }
+    let wrong = Wrong::Rest(bytes.len());
+    Some(violation_at(reader.context.table, path, wrong))
 }

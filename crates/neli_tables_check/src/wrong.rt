@@ -1,4 +1,4 @@
-//! What a row does not allow.
+//! What a parser does not allow.
 
 ghost use Rattle.std.specs.Prelude.{Some};
 ghost use Rattle.neli_tables_check.specs.Violations.{wrong_text};
@@ -7,7 +7,7 @@ use neli_tables::Span;
 use neli_tables_walk::Breach;
 use std::fmt;
 
-/// What a row does not allow.
+/// What a parser of the kernel does not allow.
 #[derive(Clone, Copy, Debug, PartialEq, Eq)]
 pub enum Wrong {
     /// The payload cannot be of its kind.
@@ -19,6 +19,14 @@ pub enum Wrong {
     Range(Span),
     /// A number has bits that are none of these. Those of an array are not looked at.
     Mask(u64),
+    /// A `struct nla_bitfield32` has bits that it does not select.
+    Unselected,
+    /// The table has no such attribute, or it is one without a meaning (`pad`).
+    Unknown,
+    /// A nest lacks the flag `NLA_F_NESTED`.
+    NotNested,
+    /// An attribute that is no nest has the flag `NLA_F_NESTED`.
+    Nested,
     /// The attribute is a nest in the tenth list, which no kernel enters.
     Deep,
     /// So many bytes follow the attributes of a list, and are none.
@@ -40,6 +48,10 @@ impl fmt::Display for Wrong {
                 write!(f, "not from {first} to {last}")
             }
             Wrong::Mask(mask) => write!(f, "bits that are not in 0x{mask:x}"),
+            Wrong::Unselected => write!(f, "bits that are not selected"),
+            Wrong::Unknown => write!(f, "unknown attribute"),
+            Wrong::NotNested => write!(f, "NLA_F_NESTED is missing"),
+            Wrong::Nested => write!(f, "NLA_F_NESTED not expected"),
             Wrong::Deep => write!(f, "a nest in too many"),
             Wrong::Rest(count) => write!(f, "{count} bytes after the attributes"),
         }

@@ -43,79 +43,80 @@ static TEXT: &[u8] = b"\
     ssage NL80211_CMD_SET_CHANNEL 65 nest=nl80211\nmessage NL80211_CMD_SET_WDS_PEER 66 nest=nl8021\
     1\nmessage NL80211_CMD_FRAME_WAIT_CANCEL 67 nest=nl80211\nmessage NL80211_CMD_JOIN_MESH 68 nes\
     t=nl80211\nmessage NL80211_CMD_LEAVE_MESH 69 nest=nl80211\nmessage NL80211_CMD_UNPROT_DEAUTHEN\
-    TICATE 70 nest=nl80211\nmessage NL80211_CMD_UNPROT_DISASSOCIATE 71 nest=nl80211\nmessage NL802\
-    11_CMD_NEW_PEER_CANDIDATE 72 nest=nl80211\nmessage NL80211_CMD_GET_WOWLAN 73 nest=nl80211\nmes\
-    sage NL80211_CMD_SET_WOWLAN 74 nest=nl80211\nmessage NL80211_CMD_START_SCHED_SCAN 75 nest=nl80\
-    211\nmessage NL80211_CMD_STOP_SCHED_SCAN 76 nest=nl80211\nmessage NL80211_CMD_SCHED_SCAN_RESUL\
-    TS 77 nest=nl80211\nmessage NL80211_CMD_SCHED_SCAN_STOPPED 78 nest=nl80211\nmessage NL80211_CM\
-    D_SET_REKEY_OFFLOAD 79 nest=nl80211\nmessage NL80211_CMD_PMKSA_CANDIDATE 80 nest=nl80211\nmess\
-    age NL80211_CMD_TDLS_OPER 81 nest=nl80211\nmessage NL80211_CMD_TDLS_MGMT 82 nest=nl80211\nmess\
-    age NL80211_CMD_UNEXPECTED_FRAME 83 nest=nl80211\nmessage NL80211_CMD_PROBE_CLIENT 84 nest=nl8\
-    0211\nmessage NL80211_CMD_REGISTER_BEACONS 85 nest=nl80211\nmessage NL80211_CMD_UNEXPECTED_4AD\
-    DR_FRAME 86 nest=nl80211\nmessage NL80211_CMD_SET_NOACK_MAP 87 nest=nl80211\nmessage NL80211_C\
-    MD_CH_SWITCH_NOTIFY 88 nest=nl80211\nmessage NL80211_CMD_START_P2P_DEVICE 89 nest=nl80211\nmes\
-    sage NL80211_CMD_STOP_P2P_DEVICE 90 nest=nl80211\nmessage NL80211_CMD_CONN_FAILED 91 nest=nl80\
-    211\nmessage NL80211_CMD_SET_MCAST_RATE 92 nest=nl80211\nmessage NL80211_CMD_SET_MAC_ACL 93 ne\
-    st=nl80211\nmessage NL80211_CMD_RADAR_DETECT 94 nest=nl80211\nmessage NL80211_CMD_GET_PROTOCOL\
-    _FEATURES 95 nest=nl80211\nmessage NL80211_CMD_UPDATE_FT_IES 96 nest=nl80211\nmessage NL80211_\
-    CMD_FT_EVENT 97 nest=nl80211\nmessage NL80211_CMD_CRIT_PROTOCOL_START 98 nest=nl80211\nmessag\
-    e NL80211_CMD_CRIT_PROTOCOL_STOP 99 nest=nl80211\nmessage NL80211_CMD_GET_COALESCE 100 nest=nl\
-    80211\nmessage NL80211_CMD_SET_COALESCE 101 nest=nl80211\nmessage NL80211_CMD_CHANNEL_SWITCH 1\
-    02 nest=nl80211\nmessage NL80211_CMD_VENDOR 103 nest=nl80211\nmessage NL80211_CMD_SET_QOS_MAP \
-    104 nest=nl80211\nmessage NL80211_CMD_ADD_TX_TS 105 nest=nl80211\nmessage NL80211_CMD_DEL_TX_T\
-    S 106 nest=nl80211\nmessage NL80211_CMD_GET_MPP 107 nest=nl80211\nmessage NL80211_CMD_JOIN_OC\
-    B 108 nest=nl80211\nmessage NL80211_CMD_LEAVE_OCB 109 nest=nl80211\nmessage NL80211_CMD_CH_SWI\
-    TCH_STARTED_NOTIFY 110 nest=nl80211\nmessage NL80211_CMD_TDLS_CHANNEL_SWITCH 111 nest=nl8021\
-    1\nmessage NL80211_CMD_TDLS_CANCEL_CHANNEL_SWITCH 112 nest=nl80211\nmessage NL80211_CMD_WIPHY_\
-    REG_CHANGE 113 nest=nl80211\nmessage NL80211_CMD_ABORT_SCAN 114 nest=nl80211\nmessage NL80211_\
-    CMD_START_NAN 115 nest=nl80211\nmessage NL80211_CMD_STOP_NAN 116 nest=nl80211\nmessage NL80211\
-    _CMD_ADD_NAN_FUNCTION 117 nest=nl80211\nmessage NL80211_CMD_DEL_NAN_FUNCTION 118 nest=nl8021\
-    1\nmessage NL80211_CMD_CHANGE_NAN_CONFIG 119 nest=nl80211\nmessage NL80211_CMD_NAN_MATCH 120 n\
-    est=nl80211\nmessage NL80211_CMD_SET_MULTICAST_TO_UNICAST 121 nest=nl80211\nmessage NL80211_CM\
-    D_UPDATE_CONNECT_PARAMS 122 nest=nl80211\nmessage NL80211_CMD_SET_PMK 123 nest=nl80211\nmessag\
-    e NL80211_CMD_DEL_PMK 124 nest=nl80211\nmessage NL80211_CMD_PORT_AUTHORIZED 125 nest=nl80211\n\
-    message NL80211_CMD_RELOAD_REGDB 126 nest=nl80211\nmessage NL80211_CMD_EXTERNAL_AUTH 127 nest=\
-    nl80211\nmessage NL80211_CMD_STA_OPMODE_CHANGED 128 nest=nl80211\nmessage NL80211_CMD_CONTROL_\
-    PORT_FRAME 129 nest=nl80211\nmessage NL80211_CMD_GET_FTM_RESPONDER_STATS 130 nest=nl80211\nmes\
-    sage NL80211_CMD_PEER_MEASUREMENT_START 131 nest=nl80211\nmessage NL80211_CMD_PEER_MEASUREMENT\
-    _RESULT 132 nest=nl80211\nmessage NL80211_CMD_PEER_MEASUREMENT_COMPLETE 133 nest=nl80211\nmess\
-    age NL80211_CMD_NOTIFY_RADAR 134 nest=nl80211\nmessage NL80211_CMD_UPDATE_OWE_INFO 135 nest=nl\
-    80211\nmessage NL80211_CMD_PROBE_MESH_LINK 136 nest=nl80211\nmessage NL80211_CMD_SET_TID_CONFI\
-    G 137 nest=nl80211\nmessage NL80211_CMD_UNPROT_BEACON 138 nest=nl80211\nmessage NL80211_CMD_CO\
-    NTROL_PORT_FRAME_TX_STATUS 139 nest=nl80211\nmessage NL80211_CMD_SET_SAR_SPECS 140 nest=nl8021\
-    1\nmessage NL80211_CMD_OBSS_COLOR_COLLISION 141 nest=nl80211\nmessage NL80211_CMD_COLOR_CHANGE\
-    _REQUEST 142 nest=nl80211\nmessage NL80211_CMD_COLOR_CHANGE_STARTED 143 nest=nl80211\nmessage \
-    NL80211_CMD_COLOR_CHANGE_ABORTED 144 nest=nl80211\nmessage NL80211_CMD_COLOR_CHANGE_COMPLETED \
-    145 nest=nl80211\nmessage NL80211_CMD_SET_FILS_AAD 146 nest=nl80211\nmessage NL80211_CMD_ASSOC\
-    _COMEBACK 147 nest=nl80211\nmessage NL80211_CMD_ADD_LINK 148 nest=nl80211\nmessage NL80211_CMD\
-    _REMOVE_LINK 149 nest=nl80211\nmessage NL80211_CMD_ADD_LINK_STA 150 nest=nl80211\nmessage NL80\
-    211_CMD_MODIFY_LINK_STA 151 nest=nl80211\nmessage NL80211_CMD_REMOVE_LINK_STA 152 nest=nl8021\
-    1\nmessage NL80211_CMD_SET_HW_TIMESTAMP 153 nest=nl80211\nmessage NL80211_CMD_LINKS_REMOVED 15\
-    4 nest=nl80211\nmessage NL80211_CMD_SET_TID_TO_LINK_MAPPING 155 nest=nl80211\n\nenum interface\
-    -type prefix=NL80211_IFTYPE_\n  value unspecified 0\n  value adhoc 1\n  value station 2\n  val\
-    ue ap 3\n  value ap-vlan 4\n  value wds 5\n  value monitor 6\n  value mesh-point 7\n  value p2\
-    p-client 8\n  value p2p-go 9\n  value p2p-device 10\n  value ocb 11\n  value nan 12\n\nenum ch\
-    annel-width prefix=NL80211_CHAN_WIDTH_\n  value 20-noht 0\n  value 20 1\n  value 40 2\n  valu\
-    e 80 3\n  value 80p80 4\n  value 160 5\n  value 5 6\n  value 10 7\n  value 1 8\n  value 2 \
-    9\n  value 4 10\n  value 8 11\n  value 16 12\n  value 320 13\n\nenum channel-type prefix=NL802\
-    11_CHAN_\n  value no-ht 0\n  value ht20 1\n  value ht40minus 2\n  value ht40plus 3\n\nenum ini\
-    tiator prefix=NL80211_REGDOM_SET_BY_\n  value core 0\n  value user 1\n  value driver 2\n  valu\
-    e country-ie 3\n\nstruct nl80211_sta_flag_update 8\n  field mask 0..4 u32\n  field set 4..8 u3\
-    2\n\nstruct nl80211_wowlan_tcp_data_seq 12\n  field start 0..4 u32\n  field offset 4..8 u3\
-    2\n  field len 8..12 u32\n\nstruct nl80211_bss_select_rssi_adjust 2\n  field band 0..1 u8\n  f\
-    ield delta 1..2 s8\n\nstruct nl80211_wowlan_tcp_data_token 65531\n  field offset 0..4 u32\n  f\
-    ield len 4..8 u32\n  field token_stream 8..65531 bytes\n\nstruct nl80211_vendor_cmd_info 8\n  \
-    field vendor_id 0..4 u32\n  field subcmd 4..8 u32\n\nset nl80211\n  attr NL80211_ATTR_WIPHY 1 \
-    u32\n  attr NL80211_ATTR_WIPHY_NAME 2 ztext\n  attr NL80211_ATTR_IFINDEX 3 u32\n  attr NL80211\
-    _ATTR_IFNAME 4 ztext\n  attr NL80211_ATTR_IFTYPE 5 u32 enum=interface-type\n  attr NL80211_ATT\
-    R_MAC 6 hardware\n  attr NL80211_ATTR_KEY_DATA 7 bytes\n  attr NL80211_ATTR_KEY_IDX 8 u8\n  at\
-    tr NL80211_ATTR_KEY_CIPHER 9 u32\n  attr NL80211_ATTR_KEY_SEQ 10 bytes\n  attr NL80211_ATTR_KE\
-    Y_DEFAULT 11 flag\n  attr NL80211_ATTR_BEACON_INTERVAL 12 u32\n  attr NL80211_ATTR_DTIM_PERIO\
-    D 13 u32\n  attr NL80211_ATTR_BEACON_HEAD 14 bytes\n  attr NL80211_ATTR_BEACON_TAIL 15 byte\
-    s\n  attr NL80211_ATTR_STA_AID 16 u16\n  attr NL80211_ATTR_STA_FLAGS 17 nest=station-flags\n  \
-    attr NL80211_ATTR_STA_LISTEN_INTERVAL 18 u16\n  attr NL80211_ATTR_STA_SUPPORTED_RATES 19 byte\
-    s\n  attr NL80211_ATTR_STA_VLAN 20 u32\n  attr NL80211_ATTR_STA_INFO 21 nest=station\n  attr N\
-    L80211_ATTR_WIPHY_BANDS 22 nest=bands\n  attr NL80211_ATTR_MNTR_FLAGS 23 nest=monitor-flag\
+    TICATE 70 nest=nl80211 strict\nmessage NL80211_CMD_UNPROT_DISASSOCIATE 71 nest=nl80211 stric\
+    t\nmessage NL80211_CMD_NEW_PEER_CANDIDATE 72 nest=nl80211\nmessage NL80211_CMD_GET_WOWLAN 73 n\
+    est=nl80211\nmessage NL80211_CMD_SET_WOWLAN 74 nest=nl80211\nmessage NL80211_CMD_START_SCHED_S\
+    CAN 75 nest=nl80211\nmessage NL80211_CMD_STOP_SCHED_SCAN 76 nest=nl80211\nmessage NL80211_CMD_\
+    SCHED_SCAN_RESULTS 77 nest=nl80211\nmessage NL80211_CMD_SCHED_SCAN_STOPPED 78 nest=nl80211\nme\
+    ssage NL80211_CMD_SET_REKEY_OFFLOAD 79 nest=nl80211\nmessage NL80211_CMD_PMKSA_CANDIDATE 80 ne\
+    st=nl80211\nmessage NL80211_CMD_TDLS_OPER 81 nest=nl80211\nmessage NL80211_CMD_TDLS_MGMT 82 ne\
+    st=nl80211\nmessage NL80211_CMD_UNEXPECTED_FRAME 83 nest=nl80211\nmessage NL80211_CMD_PROBE_CL\
+    IENT 84 nest=nl80211\nmessage NL80211_CMD_REGISTER_BEACONS 85 nest=nl80211\nmessage NL80211_CM\
+    D_UNEXPECTED_4ADDR_FRAME 86 nest=nl80211\nmessage NL80211_CMD_SET_NOACK_MAP 87 nest=nl80211\nm\
+    essage NL80211_CMD_CH_SWITCH_NOTIFY 88 nest=nl80211\nmessage NL80211_CMD_START_P2P_DEVICE 89 n\
+    est=nl80211\nmessage NL80211_CMD_STOP_P2P_DEVICE 90 nest=nl80211\nmessage NL80211_CMD_CONN_FAI\
+    LED 91 nest=nl80211\nmessage NL80211_CMD_SET_MCAST_RATE 92 nest=nl80211\nmessage NL80211_CMD_S\
+    ET_MAC_ACL 93 nest=nl80211\nmessage NL80211_CMD_RADAR_DETECT 94 nest=nl80211\nmessage NL80211_\
+    CMD_GET_PROTOCOL_FEATURES 95 nest=nl80211\nmessage NL80211_CMD_UPDATE_FT_IES 96 nest=nl80211\n\
+    message NL80211_CMD_FT_EVENT 97 nest=nl80211\nmessage NL80211_CMD_CRIT_PROTOCOL_START 98 nest=\
+    nl80211\nmessage NL80211_CMD_CRIT_PROTOCOL_STOP 99 nest=nl80211\nmessage NL80211_CMD_GET_COALE\
+    SCE 100 nest=nl80211\nmessage NL80211_CMD_SET_COALESCE 101 nest=nl80211\nmessage NL80211_CMD_C\
+    HANNEL_SWITCH 102 nest=nl80211\nmessage NL80211_CMD_VENDOR 103 nest=nl80211\nmessage NL80211_C\
+    MD_SET_QOS_MAP 104 nest=nl80211\nmessage NL80211_CMD_ADD_TX_TS 105 nest=nl80211\nmessage NL802\
+    11_CMD_DEL_TX_TS 106 nest=nl80211\nmessage NL80211_CMD_GET_MPP 107 nest=nl80211\nmessage NL802\
+    11_CMD_JOIN_OCB 108 nest=nl80211\nmessage NL80211_CMD_LEAVE_OCB 109 nest=nl80211\nmessage NL80\
+    211_CMD_CH_SWITCH_STARTED_NOTIFY 110 nest=nl80211\nmessage NL80211_CMD_TDLS_CHANNEL_SWITCH 11\
+    1 nest=nl80211\nmessage NL80211_CMD_TDLS_CANCEL_CHANNEL_SWITCH 112 nest=nl80211\nmessage NL802\
+    11_CMD_WIPHY_REG_CHANGE 113 nest=nl80211\nmessage NL80211_CMD_ABORT_SCAN 114 nest=nl80211\nmes\
+    sage NL80211_CMD_START_NAN 115 nest=nl80211\nmessage NL80211_CMD_STOP_NAN 116 nest=nl80211\nme\
+    ssage NL80211_CMD_ADD_NAN_FUNCTION 117 nest=nl80211\nmessage NL80211_CMD_DEL_NAN_FUNCTION 118 \
+    nest=nl80211\nmessage NL80211_CMD_CHANGE_NAN_CONFIG 119 nest=nl80211\nmessage NL80211_CMD_NAN_\
+    MATCH 120 nest=nl80211\nmessage NL80211_CMD_SET_MULTICAST_TO_UNICAST 121 nest=nl80211\nmessag\
+    e NL80211_CMD_UPDATE_CONNECT_PARAMS 122 nest=nl80211\nmessage NL80211_CMD_SET_PMK 123 nest=nl8\
+    0211\nmessage NL80211_CMD_DEL_PMK 124 nest=nl80211\nmessage NL80211_CMD_PORT_AUTHORIZED 125 ne\
+    st=nl80211\nmessage NL80211_CMD_RELOAD_REGDB 126 nest=nl80211\nmessage NL80211_CMD_EXTERNAL_AU\
+    TH 127 nest=nl80211\nmessage NL80211_CMD_STA_OPMODE_CHANGED 128 nest=nl80211\nmessage NL80211_\
+    CMD_CONTROL_PORT_FRAME 129 nest=nl80211\nmessage NL80211_CMD_GET_FTM_RESPONDER_STATS 130 nest=\
+    nl80211\nmessage NL80211_CMD_PEER_MEASUREMENT_START 131 nest=nl80211\nmessage NL80211_CMD_PEER\
+    _MEASUREMENT_RESULT 132 nest=nl80211\nmessage NL80211_CMD_PEER_MEASUREMENT_COMPLETE 133 nest=n\
+    l80211\nmessage NL80211_CMD_NOTIFY_RADAR 134 nest=nl80211\nmessage NL80211_CMD_UPDATE_OWE_INF\
+    O 135 nest=nl80211 strict\nmessage NL80211_CMD_PROBE_MESH_LINK 136 nest=nl80211 strict\nmessag\
+    e NL80211_CMD_SET_TID_CONFIG 137 nest=nl80211 strict\nmessage NL80211_CMD_UNPROT_BEACON 138 ne\
+    st=nl80211 strict\nmessage NL80211_CMD_CONTROL_PORT_FRAME_TX_STATUS 139 nest=nl80211\nmessage \
+    NL80211_CMD_SET_SAR_SPECS 140 nest=nl80211\nmessage NL80211_CMD_OBSS_COLOR_COLLISION 141 nest=\
+    nl80211\nmessage NL80211_CMD_COLOR_CHANGE_REQUEST 142 nest=nl80211\nmessage NL80211_CMD_COLOR_\
+    CHANGE_STARTED 143 nest=nl80211\nmessage NL80211_CMD_COLOR_CHANGE_ABORTED 144 nest=nl80211\nme\
+    ssage NL80211_CMD_COLOR_CHANGE_COMPLETED 145 nest=nl80211\nmessage NL80211_CMD_SET_FILS_AAD 14\
+    6 nest=nl80211\nmessage NL80211_CMD_ASSOC_COMEBACK 147 nest=nl80211\nmessage NL80211_CMD_ADD_L\
+    INK 148 nest=nl80211 strict\nmessage NL80211_CMD_REMOVE_LINK 149 nest=nl80211 strict\nmessage \
+    NL80211_CMD_ADD_LINK_STA 150 nest=nl80211 strict\nmessage NL80211_CMD_MODIFY_LINK_STA 151 nest\
+    =nl80211 strict\nmessage NL80211_CMD_REMOVE_LINK_STA 152 nest=nl80211 strict\nmessage NL80211_\
+    CMD_SET_HW_TIMESTAMP 153 nest=nl80211 strict\nmessage NL80211_CMD_LINKS_REMOVED 154 nest=nl802\
+    11\nmessage NL80211_CMD_SET_TID_TO_LINK_MAPPING 155 nest=nl80211 strict\n\nenum interface-typ\
+    e prefix=NL80211_IFTYPE_\n  value unspecified 0\n  value adhoc 1\n  value station 2\n  value a\
+    p 3\n  value ap-vlan 4\n  value wds 5\n  value monitor 6\n  value mesh-point 7\n  value p2p-cl\
+    ient 8\n  value p2p-go 9\n  value p2p-device 10\n  value ocb 11\n  value nan 12\n\nenum channe\
+    l-width prefix=NL80211_CHAN_WIDTH_\n  value 20-noht 0\n  value 20 1\n  value 40 2\n  value 80 \
+    3\n  value 80p80 4\n  value 160 5\n  value 5 6\n  value 10 7\n  value 1 8\n  value 2 9\n  valu\
+    e 4 10\n  value 8 11\n  value 16 12\n  value 320 13\n\nenum channel-type prefix=NL80211_CHAN\
+    _\n  value no-ht 0\n  value ht20 1\n  value ht40minus 2\n  value ht40plus 3\n\nenum initiator \
+    prefix=NL80211_REGDOM_SET_BY_\n  value core 0\n  value user 1\n  value driver 2\n  value count\
+    ry-ie 3\n\nstruct nl80211_sta_flag_update 8\n  field mask 0..4 u32\n  field set 4..8 u32\n\nst\
+    ruct nl80211_wowlan_tcp_data_seq 12\n  field start 0..4 u32\n  field offset 4..8 u32\n  field \
+    len 8..12 u32\n\nstruct nl80211_bss_select_rssi_adjust 2\n  field band 0..1 u8\n  field delta \
+    1..2 s8\n\nstruct nl80211_wowlan_tcp_data_token 65531\n  field offset 0..4 u32\n  field len 4.\
+    .8 u32\n  field token_stream 8..65531 bytes\n\nstruct nl80211_vendor_cmd_info 8\n  field vendo\
+    r_id 0..4 u32\n  field subcmd 4..8 u32\n\nset nl80211 strict-from=279\n  attr NL80211_ATTR_WIP\
+    HY 1 u32\n  attr NL80211_ATTR_WIPHY_NAME 2 ztext\n  attr NL80211_ATTR_IFINDEX 3 u32\n  attr NL\
+    80211_ATTR_IFNAME 4 ztext\n  attr NL80211_ATTR_IFTYPE 5 u32 enum=interface-type\n  attr NL8021\
+    1_ATTR_MAC 6 hardware\n  attr NL80211_ATTR_KEY_DATA 7 bytes\n  attr NL80211_ATTR_KEY_IDX 8 u\
+    8\n  attr NL80211_ATTR_KEY_CIPHER 9 u32\n  attr NL80211_ATTR_KEY_SEQ 10 bytes\n  attr NL80211_\
+    ATTR_KEY_DEFAULT 11 flag\n  attr NL80211_ATTR_BEACON_INTERVAL 12 u32\n  attr NL80211_ATTR_DTIM\
+    _PERIOD 13 u32\n  attr NL80211_ATTR_BEACON_HEAD 14 bytes\n  attr NL80211_ATTR_BEACON_TAIL 15 b\
+    ytes\n  attr NL80211_ATTR_STA_AID 16 u16\n  attr NL80211_ATTR_STA_FLAGS 17 nest=station-flag\
+    s\n  attr NL80211_ATTR_STA_LISTEN_INTERVAL 18 u16\n  attr NL80211_ATTR_STA_SUPPORTED_RATES 19 \
+    bytes\n  attr NL80211_ATTR_STA_VLAN 20 u32\n  attr NL80211_ATTR_STA_INFO 21 nest=station\n  at\
+    tr NL80211_ATTR_WIPHY_BANDS 22 nest=bands\n  attr NL80211_ATTR_MNTR_FLAGS 23 nest=monitor-flag\
     s\n  attr NL80211_ATTR_MESH_ID 24 bytes\n  attr NL80211_ATTR_STA_PLINK_ACTION 25 u8\n  attr NL\
     80211_ATTR_MPATH_NEXT_HOP 26 hardware\n  attr NL80211_ATTR_MPATH_INFO 27 nest=mesh-path\n  att\
     r NL80211_ATTR_BSS_CTS_PROT 28 u8\n  attr NL80211_ATTR_BSS_SHORT_PREAMBLE 29 u8\n  attr NL8021\

@@ -34,24 +34,25 @@ static TEXT: &[u8] = b"\
     s_lookups 32..40 u64\n  field ndts_hits 40..48 u64\n  field ndts_rcv_probes_mcast 48..56 u6\
     4\n  field ndts_rcv_probes_ucast 56..64 u64\n  field ndts_periodic_gc_runs 64..72 u64\n  fiel\
     d ndts_forced_gc_runs 72..80 u64\n  field ndts_table_fulls 80..88 u64\n\nstruct ndtmsg 4\n  fi\
-    eld ndtm_family 0..1 u8\n\nset neighbour\n  attr NDA_DST 1 address length=0..32\n  attr NDA_LL\
-    ADDR 2 hardware length=0..32\n  attr NDA_CACHEINFO 3 struct=nda_cacheinfo length=16..65531\n  \
-    attr NDA_PROBES 4 u32\n  attr NDA_VLAN 5 u16\n  attr NDA_PORT 6 be16\n  attr NDA_VNI 7 u32\n  \
-    attr NDA_IFINDEX 8 u32\n  attr NDA_MASTER 9 u32\n  attr NDA_LINK_NETNSID 10 s32\n  attr NDA_SR\
-    C_VNI 11 u32\n  attr NDA_PROTOCOL 12 u8 enum=protocol\n  attr NDA_NH_ID 13 u32\n  attr NDA_FDB\
-    _EXT_ATTRS 14 nest=forwarding\n  attr NDA_FLAGS_EXT 15 u32 flags=extended-flags\n  attr NDA_ND\
-    M_STATE_MASK 16 u16 flags=state\n  attr NDA_NDM_FLAGS_MASK 17 u8 flags=flags\n\nset forwardin\
-    g\n  attr NFEA_ACTIVITY_NOTIFY 1 u8\n  attr NFEA_DONT_REFRESH 2 flag\n\nset cache\n  attr NDTA\
-    _NAME 1 text\n  attr NDTA_THRESH1 2 u32\n  attr NDTA_THRESH2 3 u32\n  attr NDTA_THRESH3 4 u3\
-    2\n  attr NDTA_CONFIG 5 struct=ndt_config\n  attr NDTA_PARMS 6 nest=cache-settings\n  attr NDT\
-    A_STATS 7 struct=ndt_stats\n  attr NDTA_GC_INTERVAL 8 u64\n  attr NDTA_PAD 9 pad\n\nset cache-\
-    settings\n  attr NDTPA_IFINDEX 1 u32\n  attr NDTPA_REFCNT 2 u32\n  attr NDTPA_REACHABLE_TIME \
-    3 u64\n  attr NDTPA_BASE_REACHABLE_TIME 4 u64\n  attr NDTPA_RETRANS_TIME 5 u64\n  attr NDTPA_G\
-    C_STALETIME 6 u64\n  attr NDTPA_DELAY_PROBE_TIME 7 u64\n  attr NDTPA_QUEUE_LEN 8 u32\n  attr N\
-    DTPA_APP_PROBES 9 u32\n  attr NDTPA_UCAST_PROBES 10 u32\n  attr NDTPA_MCAST_PROBES 11 u32\n  a\
-    ttr NDTPA_ANYCAST_DELAY 12 u64\n  attr NDTPA_PROXY_DELAY 13 u64\n  attr NDTPA_PROXY_QLEN 14 u3\
-    2\n  attr NDTPA_LOCKTIME 15 u64\n  attr NDTPA_QUEUE_LENBYTES 16 u32\n  attr NDTPA_MCAST_REPROB\
-    ES 17 u32\n  attr NDTPA_PAD 18 pad\n  attr NDTPA_INTERVAL_PROBE_TIME_MS 19 u64\n";
+    eld ndtm_family 0..1 u8\n\nset neighbour strict-from=13\n  attr NDA_DST 1 address length=0..3\
+    2\n  attr NDA_LLADDR 2 hardware length=0..32\n  attr NDA_CACHEINFO 3 struct=nda_cacheinfo leng\
+    th=16..65531\n  attr NDA_PROBES 4 u32\n  attr NDA_VLAN 5 u16\n  attr NDA_PORT 6 be16\n  attr N\
+    DA_VNI 7 u32\n  attr NDA_IFINDEX 8 u32\n  attr NDA_MASTER 9 u32\n  attr NDA_LINK_NETNSID 10 s3\
+    2\n  attr NDA_SRC_VNI 11 u32\n  attr NDA_PROTOCOL 12 u8 enum=protocol\n  attr NDA_NH_ID 13 u3\
+    2\n  attr NDA_FDB_EXT_ATTRS 14 nest=forwarding\n  attr NDA_FLAGS_EXT 15 u32 flags=extended-fla\
+    gs\n  attr NDA_NDM_STATE_MASK 16 u16 flags=state\n  attr NDA_NDM_FLAGS_MASK 17 u8 flags=flag\
+    s\n\nset forwarding\n  attr NFEA_ACTIVITY_NOTIFY 1 u8\n  attr NFEA_DONT_REFRESH 2 flag\n\nset \
+    cache\n  attr NDTA_NAME 1 text\n  attr NDTA_THRESH1 2 u32\n  attr NDTA_THRESH2 3 u32\n  attr N\
+    DTA_THRESH3 4 u32\n  attr NDTA_CONFIG 5 struct=ndt_config\n  attr NDTA_PARMS 6 nest=cache-sett\
+    ings\n  attr NDTA_STATS 7 struct=ndt_stats\n  attr NDTA_GC_INTERVAL 8 u64\n  attr NDTA_PAD 9 p\
+    ad\n\nset cache-settings\n  attr NDTPA_IFINDEX 1 u32\n  attr NDTPA_REFCNT 2 u32\n  attr NDTPA_\
+    REACHABLE_TIME 3 u64\n  attr NDTPA_BASE_REACHABLE_TIME 4 u64\n  attr NDTPA_RETRANS_TIME 5 u6\
+    4\n  attr NDTPA_GC_STALETIME 6 u64\n  attr NDTPA_DELAY_PROBE_TIME 7 u64\n  attr NDTPA_QUEUE_LE\
+    N 8 u32\n  attr NDTPA_APP_PROBES 9 u32\n  attr NDTPA_UCAST_PROBES 10 u32\n  attr NDTPA_MCAST_P\
+    ROBES 11 u32\n  attr NDTPA_ANYCAST_DELAY 12 u64\n  attr NDTPA_PROXY_DELAY 13 u64\n  attr NDTPA\
+    _PROXY_QLEN 14 u32\n  attr NDTPA_LOCKTIME 15 u64\n  attr NDTPA_QUEUE_LENBYTES 16 u32\n  attr N\
+    DTPA_MCAST_REPROBES 17 u32\n  attr NDTPA_PAD 18 pad\n  attr NDTPA_INTERVAL_PROBE_TIME_MS 19 u6\
+    4\n";
 
 /// The text of `tables/rt_neigh.table`.
 pub(crate) fn text() -> &'static [u8]

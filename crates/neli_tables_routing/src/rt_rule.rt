@@ -22,18 +22,18 @@ static TEXT: &[u8] = b"\
     ule_port_range 4\n  field start 0..2 u16\n  field end 2..4 u16\n\nstruct fib_rule_hdr 12\n  fi\
     eld family 0..1 u8\n  field dst_len 1..2 u8\n  field src_len 2..3 u8\n  field tos 3..4 u8\n  f\
     ield table 4..5 u8 enum=table\n  field res1 5..6 u8\n  field res2 6..7 u8\n  field action 7..\
-    8 u8 enum=action\n  field flags 8..12 u32 flags=flags\n\nset rule\n  attr FRA_DST 1 addres\
-    s\n  attr FRA_SRC 2 address\n  attr FRA_IIFNAME 3 text length=1..15\n  attr FRA_GOTO 4 u32\n  \
-    attr FRA_UNUSED2 5 pad\n  attr FRA_PRIORITY 6 u32\n  attr FRA_UNUSED3 7 pad\n  attr FRA_UNUSED\
-    4 8 pad\n  attr FRA_UNUSED5 9 pad\n  attr FRA_FWMARK 10 u32\n  attr FRA_FLOW 11 u32\n  attr FR\
-    A_TUN_ID 12 be64\n  attr FRA_SUPPRESS_IFGROUP 13 u32\n  attr FRA_SUPPRESS_PREFIXLEN 14 u32\n  \
-    attr FRA_TABLE 15 u32 enum=table\n  attr FRA_FWMASK 16 u32\n  attr FRA_OIFNAME 17 text length=\
-    1..15\n  attr FRA_PAD 18 pad\n  attr FRA_L3MDEV 19 u8\n  attr FRA_UID_RANGE 20 struct=fib_rule\
-    _uid_range length=8..65531\n  attr FRA_PROTOCOL 21 u8 enum=protocol\n  attr FRA_IP_PROTO 22 u\
-    8\n  attr FRA_SPORT_RANGE 23 struct=fib_rule_port_range length=4..65531\n  attr FRA_DPORT_RANG\
-    E 24 struct=fib_rule_port_range length=4..65531\n  attr FRA_DSCP 25 u8\n  attr FRA_FLOWLABEL 2\
-    6 be32\n  attr FRA_FLOWLABEL_MASK 27 be32\n  attr FRA_SPORT_MASK 28 u16\n  attr FRA_DPORT_MAS\
-    K 29 u16\n  attr FRA_DSCP_MASK 30 u8\n";
+    8 u8 enum=action\n  field flags 8..12 u32 flags=flags\n\nset rule strict-from=25\n  attr FRA_D\
+    ST 1 address\n  attr FRA_SRC 2 address\n  attr FRA_IIFNAME 3 text length=1..15\n  attr FRA_GOT\
+    O 4 u32\n  attr FRA_UNUSED2 5 pad\n  attr FRA_PRIORITY 6 u32\n  attr FRA_UNUSED3 7 pad\n  att\
+    r FRA_UNUSED4 8 pad\n  attr FRA_UNUSED5 9 pad\n  attr FRA_FWMARK 10 u32\n  attr FRA_FLOW 11 u3\
+    2\n  attr FRA_TUN_ID 12 be64\n  attr FRA_SUPPRESS_IFGROUP 13 u32\n  attr FRA_SUPPRESS_PREFIXLE\
+    N 14 u32\n  attr FRA_TABLE 15 u32 enum=table\n  attr FRA_FWMASK 16 u32\n  attr FRA_OIFNAME 17 \
+    text length=1..15\n  attr FRA_PAD 18 pad\n  attr FRA_L3MDEV 19 u8\n  attr FRA_UID_RANGE 20 str\
+    uct=fib_rule_uid_range length=8..65531\n  attr FRA_PROTOCOL 21 u8 enum=protocol\n  attr FRA_IP\
+    _PROTO 22 u8\n  attr FRA_SPORT_RANGE 23 struct=fib_rule_port_range length=4..65531\n  attr FRA\
+    _DPORT_RANGE 24 struct=fib_rule_port_range length=4..65531\n  attr FRA_DSCP 25 u8\n  attr FRA_\
+    FLOWLABEL 26 be32\n  attr FRA_FLOWLABEL_MASK 27 be32\n  attr FRA_SPORT_MASK 28 u16\n  attr FRA\
+    _DPORT_MASK 29 u16\n  attr FRA_DSCP_MASK 30 u8\n";
 
 /// The text of `tables/rt_rule.table`.
 pub(crate) fn text() -> &'static [u8]

@@ -246,191 +246,192 @@ static TEXT: &[u8] = b"\
     _PAD 8 pad\n  attr TCA_TUNNEL_KEY_ENC_DST_PORT 9 be16\n  attr TCA_TUNNEL_KEY_NO_CSUM 10 u8\n  \
     attr TCA_TUNNEL_KEY_ENC_OPTS 11 nest=tunnel-key-options\n  attr TCA_TUNNEL_KEY_ENC_TOS 12 u\
     8\n  attr TCA_TUNNEL_KEY_ENC_TTL 13 u8\n  attr TCA_TUNNEL_KEY_NO_FRAG 14 flag\n\nset tc-act-vl\
-    an-attrs\n  attr TCA_VLAN_TM 1 struct=tcf_t\n  attr TCA_VLAN_PARMS 2 struct=tc_vlan\n  attr TC\
-    A_VLAN_PUSH_VLAN_ID 3 u16\n  attr TCA_VLAN_PUSH_VLAN_PROTOCOL 4 be16 hex\n  attr TCA_VLAN_PAD \
-    5 pad\n  attr TCA_VLAN_PUSH_VLAN_PRIORITY 6 u8\n  attr TCA_VLAN_PUSH_ETH_DST 7 hardware\n  att\
-    r TCA_VLAN_PUSH_ETH_SRC 8 hardware\n\nset tc-basic-attrs\n  attr TCA_BASIC_CLASSID 1 u32\n  at\
-    tr TCA_BASIC_EMATCHES 2 nest=tc-ematch-attrs\n  attr TCA_BASIC_ACT 3 nest=tc-basic-attrs.ac\
-    t\n  attr TCA_BASIC_POLICE 4 nest=tc-police-attrs\n  attr TCA_BASIC_PCNT 5 struct=tc_basic_pcn\
-    t\n  attr TCA_BASIC_PAD 6 pad\n\nset tc-basic-attrs.act\n  each index nest=tc-act-attrs\n\nse\
-    t tc-bpf-attrs\n  attr TCA_BPF_ACT 1 nest=tc-bpf-attrs.act\n  attr TCA_BPF_POLICE 2 nest=tc-po\
-    lice-attrs\n  attr TCA_BPF_CLASSID 3 u32\n  attr TCA_BPF_OPS_LEN 4 u16\n  attr TCA_BPF_OPS 5 s\
-    truct=sock_filter array\n  attr TCA_BPF_FD 6 u32\n  attr TCA_BPF_NAME 7 text\n  attr TCA_BPF_F\
-    LAGS 8 u32\n  attr TCA_BPF_FLAGS_GEN 9 u32\n  attr TCA_BPF_TAG 10 bytes\n  attr TCA_BPF_ID 11 \
-    u32\n\nset tc-bpf-attrs.act\n  each index nest=tc-act-attrs\n\nset tc-cake-attrs\n  attr TCA_C\
-    AKE_PAD 1 pad\n  attr TCA_CAKE_BASE_RATE64 2 u64\n  attr TCA_CAKE_DIFFSERV_MODE 3 u32\n  attr \
-    TCA_CAKE_ATM 4 u32\n  attr TCA_CAKE_FLOW_MODE 5 u32\n  attr TCA_CAKE_OVERHEAD 6 s32\n  attr TC\
-    A_CAKE_RTT 7 u32\n  attr TCA_CAKE_TARGET 8 u32\n  attr TCA_CAKE_AUTORATE 9 u32\n  attr TCA_CAK\
-    E_MEMORY 10 u32\n  attr TCA_CAKE_NAT 11 u32\n  attr TCA_CAKE_RAW 12 u32\n  attr TCA_CAKE_WASH \
-    13 u32\n  attr TCA_CAKE_MPU 14 u32\n  attr TCA_CAKE_INGRESS 15 u32\n  attr TCA_CAKE_ACK_FILTE\
-    R 16 u32\n  attr TCA_CAKE_SPLIT_GSO 17 u32\n  attr TCA_CAKE_FWMARK 18 u32\n\nset tc-cake-stats\
-    -attrs\n  attr TCA_CAKE_STATS_PAD 1 pad\n  attr TCA_CAKE_STATS_CAPACITY_ESTIMATE64 2 u64\n  at\
-    tr TCA_CAKE_STATS_MEMORY_LIMIT 3 u32\n  attr TCA_CAKE_STATS_MEMORY_USED 4 u32\n  attr TCA_CAKE\
-    _STATS_AVG_NETOFF 5 u32\n  attr TCA_CAKE_STATS_MIN_NETLEN 6 u32\n  attr TCA_CAKE_STATS_MAX_NET\
-    LEN 7 u32\n  attr TCA_CAKE_STATS_MIN_ADJLEN 8 u32\n  attr TCA_CAKE_STATS_MAX_ADJLEN 9 u32\n  a\
-    ttr TCA_CAKE_STATS_TIN_STATS 10 nest=tc-cake-stats-attrs.tin-stats\n  attr TCA_CAKE_STATS_DEFI\
-    CIT 11 s32\n  attr TCA_CAKE_STATS_COBALT_COUNT 12 u32\n  attr TCA_CAKE_STATS_DROPPING 13 u3\
-    2\n  attr TCA_CAKE_STATS_DROP_NEXT_US 14 s32\n  attr TCA_CAKE_STATS_P_DROP 15 u32\n  attr TCA_\
-    CAKE_STATS_BLUE_TIMER_US 16 s32\n\nset tc-cake-stats-attrs.tin-stats\n  each index nest=tc-cak\
-    e-tin-stats-attrs\n\nset tc-cake-tin-stats-attrs\n  attr TCA_CAKE_TIN_STATS_PAD 1 pad\n  attr \
-    TCA_CAKE_TIN_STATS_SENT_PACKETS 2 u32\n  attr TCA_CAKE_TIN_STATS_SENT_BYTES64 3 u64\n  attr TC\
-    A_CAKE_TIN_STATS_DROPPED_PACKETS 4 u32\n  attr TCA_CAKE_TIN_STATS_DROPPED_BYTES64 5 u64\n  att\
-    r TCA_CAKE_TIN_STATS_ACKS_DROPPED_PACKETS 6 u32\n  attr TCA_CAKE_TIN_STATS_ACKS_DROPPED_BYTES6\
-    4 7 u64\n  attr TCA_CAKE_TIN_STATS_ECN_MARKED_PACKETS 8 u32\n  attr TCA_CAKE_TIN_STATS_ECN_MAR\
-    KED_BYTES64 9 u64\n  attr TCA_CAKE_TIN_STATS_BACKLOG_PACKETS 10 u32\n  attr TCA_CAKE_TIN_STATS\
-    _BACKLOG_BYTES 11 u32\n  attr TCA_CAKE_TIN_STATS_THRESHOLD_RATE64 12 u64\n  attr TCA_CAKE_TIN_\
-    STATS_TARGET_US 13 u32\n  attr TCA_CAKE_TIN_STATS_INTERVAL_US 14 u32\n  attr TCA_CAKE_TIN_STAT\
-    S_WAY_INDIRECT_HITS 15 u32\n  attr TCA_CAKE_TIN_STATS_WAY_MISSES 16 u32\n  attr TCA_CAKE_TIN_S\
-    TATS_WAY_COLLISIONS 17 u32\n  attr TCA_CAKE_TIN_STATS_PEAK_DELAY_US 18 u32\n  attr TCA_CAKE_TI\
-    N_STATS_AVG_DELAY_US 19 u32\n  attr TCA_CAKE_TIN_STATS_BASE_DELAY_US 20 u32\n  attr TCA_CAKE_T\
-    IN_STATS_SPARSE_FLOWS 21 u32\n  attr TCA_CAKE_TIN_STATS_BULK_FLOWS 22 u32\n  attr TCA_CAKE_TIN\
-    _STATS_UNRESPONSIVE_FLOWS 23 u32\n  attr TCA_CAKE_TIN_STATS_MAX_SKBLEN 24 u32\n  attr TCA_CAKE\
-    _TIN_STATS_FLOW_QUANTUM 25 u32\n\nset tc-cbs-attrs\n  attr TCA_CBS_PARMS 1 struct=tc_cbs_qop\
-    t\n\nset tc-cgroup-attrs\n  attr TCA_CGROUP_ACT 1 nest=tc-cgroup-attrs.act\n  attr TCA_CGROUP_\
-    POLICE 2 nest=tc-police-attrs\n  attr TCA_CGROUP_EMATCHES 3 nest=tc-ematch-attrs\n\nset tc-cgr\
-    oup-attrs.act\n  each index nest=tc-act-attrs\n\nset tc-choke-attrs\n  attr TCA_CHOKE_PARMS 1 \
-    struct=tc_red_qopt\n  attr TCA_CHOKE_STAB 2 bytes length=256\n  attr TCA_CHOKE_MAX_P 3 u32\n\n\
-    set tc-codel-attrs\n  attr TCA_CODEL_TARGET 1 u32\n  attr TCA_CODEL_LIMIT 2 u32\n  attr TCA_CO\
-    DEL_INTERVAL 3 u32\n  attr TCA_CODEL_ECN 4 u32\n  attr TCA_CODEL_CE_THRESHOLD 5 u32\n\nset tc-\
-    drr-attrs\n  attr TCA_DRR_QUANTUM 1 u32\n\nset tc-ematch-attrs\n  attr TCA_EMATCH_TREE_HDR 1 s\
-    truct=tcf_ematch_tree_hdr\n  attr TCA_EMATCH_TREE_LIST 2 nest=ematches\n\nset tc-flow-attr\
-    s\n  attr TCA_FLOW_KEYS 1 u32\n  attr TCA_FLOW_MODE 2 u32\n  attr TCA_FLOW_BASECLASS 3 u32\n  \
-    attr TCA_FLOW_RSHIFT 4 u32\n  attr TCA_FLOW_ADDEND 5 u32\n  attr TCA_FLOW_MASK 6 u32\n  attr T\
-    CA_FLOW_XOR 7 u32\n  attr TCA_FLOW_DIVISOR 8 u32\n  attr TCA_FLOW_ACT 9 nest=tc-fw-attrs.ac\
-    t\n  attr TCA_FLOW_POLICE 10 nest=tc-police-attrs\n  attr TCA_FLOW_EMATCHES 11 nest=tc-ematch-\
-    attrs\n  attr TCA_FLOW_PERTURB 12 u32\n\nset tc-flower-attrs\n  attr TCA_FLOWER_CLASSID 1 u3\
-    2\n  attr TCA_FLOWER_INDEV 2 text\n  attr TCA_FLOWER_ACT 3 nest=tc-flower-attrs.act\n  attr TC\
-    A_FLOWER_KEY_ETH_DST 4 hardware\n  attr TCA_FLOWER_KEY_ETH_DST_MASK 5 hardware\n  attr TCA_FLO\
-    WER_KEY_ETH_SRC 6 hardware\n  attr TCA_FLOWER_KEY_ETH_SRC_MASK 7 hardware\n  attr TCA_FLOWER_K\
-    EY_ETH_TYPE 8 be16\n  attr TCA_FLOWER_KEY_IP_PROTO 9 u8\n  attr TCA_FLOWER_KEY_IPV4_SRC 10 ipv\
-    4\n  attr TCA_FLOWER_KEY_IPV4_SRC_MASK 11 ipv4\n  attr TCA_FLOWER_KEY_IPV4_DST 12 ipv4\n  att\
-    r TCA_FLOWER_KEY_IPV4_DST_MASK 13 ipv4\n  attr TCA_FLOWER_KEY_IPV6_SRC 14 ip\n  attr TCA_FLOWE\
-    R_KEY_IPV6_SRC_MASK 15 ip\n  attr TCA_FLOWER_KEY_IPV6_DST 16 ip\n  attr TCA_FLOWER_KEY_IPV6_DS\
-    T_MASK 17 ip\n  attr TCA_FLOWER_KEY_TCP_SRC 18 be16\n  attr TCA_FLOWER_KEY_TCP_DST 19 be16\n  \
-    attr TCA_FLOWER_KEY_UDP_SRC 20 be16\n  attr TCA_FLOWER_KEY_UDP_DST 21 be16\n  attr TCA_FLOWER_\
-    FLAGS 22 u32 flags=tc-cls-flags\n  attr TCA_FLOWER_KEY_VLAN_ID 23 be16\n  attr TCA_FLOWER_KEY_\
-    VLAN_PRIO 24 u8\n  attr TCA_FLOWER_KEY_VLAN_ETH_TYPE 25 be16\n  attr TCA_FLOWER_KEY_ENC_KEY_I\
-    D 26 be32\n  attr TCA_FLOWER_KEY_ENC_IPV4_SRC 27 ipv4\n  attr TCA_FLOWER_KEY_ENC_IPV4_SRC_MAS\
-    K 28 ipv4\n  attr TCA_FLOWER_KEY_ENC_IPV4_DST 29 ipv4\n  attr TCA_FLOWER_KEY_ENC_IPV4_DST_MAS\
-    K 30 ipv4\n  attr TCA_FLOWER_KEY_ENC_IPV6_SRC 31 ip\n  attr TCA_FLOWER_KEY_ENC_IPV6_SRC_MASK 3\
-    2 ip\n  attr TCA_FLOWER_KEY_ENC_IPV6_DST 33 ip\n  attr TCA_FLOWER_KEY_ENC_IPV6_DST_MASK 34 i\
-    p\n  attr TCA_FLOWER_KEY_TCP_SRC_MASK 35 be16\n  attr TCA_FLOWER_KEY_TCP_DST_MASK 36 be16\n  a\
-    ttr TCA_FLOWER_KEY_UDP_SRC_MASK 37 be16\n  attr TCA_FLOWER_KEY_UDP_DST_MASK 38 be16\n  attr TC\
-    A_FLOWER_KEY_SCTP_SRC_MASK 39 be16\n  attr TCA_FLOWER_KEY_SCTP_DST_MASK 40 be16\n  attr TCA_FL\
-    OWER_KEY_SCTP_SRC 41 be16\n  attr TCA_FLOWER_KEY_SCTP_DST 42 be16\n  attr TCA_FLOWER_KEY_ENC_U\
-    DP_SRC_PORT 43 be16\n  attr TCA_FLOWER_KEY_ENC_UDP_SRC_PORT_MASK 44 be16\n  attr TCA_FLOWER_KE\
-    Y_ENC_UDP_DST_PORT 45 be16\n  attr TCA_FLOWER_KEY_ENC_UDP_DST_PORT_MASK 46 be16\n  attr TCA_FL\
-    OWER_KEY_FLAGS 47 be32 flags=tc-flower-key-ctrl-flags\n  attr TCA_FLOWER_KEY_FLAGS_MASK 48 be3\
-    2 flags=tc-flower-key-ctrl-flags\n  attr TCA_FLOWER_KEY_ICMPV4_CODE 49 u8\n  attr TCA_FLOWER_K\
-    EY_ICMPV4_CODE_MASK 50 u8\n  attr TCA_FLOWER_KEY_ICMPV4_TYPE 51 u8\n  attr TCA_FLOWER_KEY_ICMP\
-    V4_TYPE_MASK 52 u8\n  attr TCA_FLOWER_KEY_ICMPV6_CODE 53 u8\n  attr TCA_FLOWER_KEY_ICMPV6_CODE\
-    _MASK 54 u8\n  attr TCA_FLOWER_KEY_ICMPV6_TYPE 55 u8\n  attr TCA_FLOWER_KEY_ICMPV6_TYPE_MASK 5\
-    6 u8\n  attr TCA_FLOWER_KEY_ARP_SIP 57 be32\n  attr TCA_FLOWER_KEY_ARP_SIP_MASK 58 be32\n  att\
-    r TCA_FLOWER_KEY_ARP_TIP 59 be32\n  attr TCA_FLOWER_KEY_ARP_TIP_MASK 60 be32\n  attr TCA_FLOWE\
-    R_KEY_ARP_OP 61 u8\n  attr TCA_FLOWER_KEY_ARP_OP_MASK 62 u8\n  attr TCA_FLOWER_KEY_ARP_SHA 63 \
-    hardware\n  attr TCA_FLOWER_KEY_ARP_SHA_MASK 64 hardware\n  attr TCA_FLOWER_KEY_ARP_THA 65 har\
-    dware\n  attr TCA_FLOWER_KEY_ARP_THA_MASK 66 hardware\n  attr TCA_FLOWER_KEY_MPLS_TTL 67 u\
-    8\n  attr TCA_FLOWER_KEY_MPLS_BOS 68 u8\n  attr TCA_FLOWER_KEY_MPLS_TC 69 u8\n  attr TCA_FLOWE\
-    R_KEY_MPLS_LABEL 70 u32\n  attr TCA_FLOWER_KEY_TCP_FLAGS 71 be16\n  attr TCA_FLOWER_KEY_TCP_FL\
-    AGS_MASK 72 be16\n  attr TCA_FLOWER_KEY_IP_TOS 73 u8\n  attr TCA_FLOWER_KEY_IP_TOS_MASK 74 u\
-    8\n  attr TCA_FLOWER_KEY_IP_TTL 75 u8\n  attr TCA_FLOWER_KEY_IP_TTL_MASK 76 u8\n  attr TCA_FLO\
-    WER_KEY_CVLAN_ID 77 be16\n  attr TCA_FLOWER_KEY_CVLAN_PRIO 78 u8\n  attr TCA_FLOWER_KEY_CVLAN_\
-    ETH_TYPE 79 be16\n  attr TCA_FLOWER_KEY_ENC_IP_TOS 80 u8\n  attr TCA_FLOWER_KEY_ENC_IP_TOS_MAS\
-    K 81 u8\n  attr TCA_FLOWER_KEY_ENC_IP_TTL 82 u8\n  attr TCA_FLOWER_KEY_ENC_IP_TTL_MASK 83 u\
-    8\n  attr TCA_FLOWER_KEY_ENC_OPTS 84 nest=tc-flower-key-enc-opts-attrs\n  attr TCA_FLOWER_KEY_\
-    ENC_OPTS_MASK 85 nest=tc-flower-key-enc-opts-attrs\n  attr TCA_FLOWER_IN_HW_COUNT 86 u32\n  at\
-    tr TCA_FLOWER_KEY_PORT_SRC_MIN 87 be16\n  attr TCA_FLOWER_KEY_PORT_SRC_MAX 88 be16\n  attr TCA\
-    _FLOWER_KEY_PORT_DST_MIN 89 be16\n  attr TCA_FLOWER_KEY_PORT_DST_MAX 90 be16\n  attr TCA_FLOWE\
-    R_KEY_CT_STATE 91 u16\n  attr TCA_FLOWER_KEY_CT_STATE_MASK 92 u16\n  attr TCA_FLOWER_KEY_CT_ZO\
-    NE 93 u16\n  attr TCA_FLOWER_KEY_CT_ZONE_MASK 94 u16\n  attr TCA_FLOWER_KEY_CT_MARK 95 u32\n  \
-    attr TCA_FLOWER_KEY_CT_MARK_MASK 96 u32\n  attr TCA_FLOWER_KEY_CT_LABELS 97 bytes\n  attr TCA_\
-    FLOWER_KEY_CT_LABELS_MASK 98 bytes\n  attr TCA_FLOWER_KEY_MPLS_OPTS 99 nest=mpls-options\n  at\
-    tr TCA_FLOWER_KEY_HASH 100 u32\n  attr TCA_FLOWER_KEY_HASH_MASK 101 u32\n  attr TCA_FLOWER_KEY\
-    _NUM_OF_VLANS 102 u8\n  attr TCA_FLOWER_KEY_PPPOE_SID 103 be16\n  attr TCA_FLOWER_KEY_PPP_PROT\
-    O 104 be16\n  attr TCA_FLOWER_KEY_L2TPV3_SID 105 be32\n  attr TCA_FLOWER_L2_MISS 106 u8\n  att\
-    r TCA_FLOWER_KEY_CFM 107 nest=tc-flower-key-cfm-attrs\n  attr TCA_FLOWER_KEY_SPI 108 be32\n  a\
-    ttr TCA_FLOWER_KEY_SPI_MASK 109 be32\n  attr TCA_FLOWER_KEY_ENC_FLAGS 110 be32 flags=tc-flower\
-    -key-ctrl-flags\n  attr TCA_FLOWER_KEY_ENC_FLAGS_MASK 111 be32 flags=tc-flower-key-ctrl-flag\
-    s\n\nset tc-flower-attrs.act\n  each index nest=tc-act-attrs\n\nset tc-flower-key-enc-opts-att\
-    rs\n  attr TCA_FLOWER_KEY_ENC_OPTS_GENEVE 1 nest=tc-flower-key-enc-opt-geneve-attrs\n  attr TC\
-    A_FLOWER_KEY_ENC_OPTS_VXLAN 2 nest=tc-flower-key-enc-opt-vxlan-attrs\n  attr TCA_FLOWER_KEY_EN\
-    C_OPTS_ERSPAN 3 nest=tc-flower-key-enc-opt-erspan-attrs\n  attr TCA_FLOWER_KEY_ENC_OPTS_GTP 4 \
-    nest=tc-flower-key-enc-opt-gtp-attrs\n\nset tc-flower-key-enc-opt-geneve-attrs\n  attr TCA_FLO\
-    WER_KEY_ENC_OPT_GENEVE_CLASS 1 be16\n  attr TCA_FLOWER_KEY_ENC_OPT_GENEVE_TYPE 2 u8\n  attr TC\
-    A_FLOWER_KEY_ENC_OPT_GENEVE_DATA 3 bytes length=0..127\n\nset tc-flower-key-enc-opt-vxlan-attr\
-    s\n  attr TCA_FLOWER_KEY_ENC_OPT_VXLAN_GBP 1 u32\n\nset tc-flower-key-enc-opt-erspan-attrs\n  \
-    attr TCA_FLOWER_KEY_ENC_OPT_ERSPAN_VER 1 u8\n  attr TCA_FLOWER_KEY_ENC_OPT_ERSPAN_INDEX 2 be3\
-    2\n  attr TCA_FLOWER_KEY_ENC_OPT_ERSPAN_DIR 3 u8\n  attr TCA_FLOWER_KEY_ENC_OPT_ERSPAN_HWID 4 \
-    u8\n\nset tc-flower-key-enc-opt-gtp-attrs\n  attr TCA_FLOWER_KEY_ENC_OPT_GTP_PDU_TYPE 1 u8\n  \
-    attr TCA_FLOWER_KEY_ENC_OPT_GTP_QFI 2 u8\n\nset tc-flower-key-mpls-opt-attrs\n  attr TCA_FLOWE\
-    R_KEY_MPLS_OPT_LSE_DEPTH 1 u8\n  attr TCA_FLOWER_KEY_MPLS_OPT_LSE_TTL 2 u8\n  attr TCA_FLOWER_\
-    KEY_MPLS_OPT_LSE_BOS 3 u8\n  attr TCA_FLOWER_KEY_MPLS_OPT_LSE_TC 4 u8\n  attr TCA_FLOWER_KEY_M\
-    PLS_OPT_LSE_LABEL 5 u32\n\nset tc-flower-key-cfm-attrs\n  attr TCA_FLOWER_KEY_CFM_MD_LEVEL 1 u\
-    8\n  attr TCA_FLOWER_KEY_CFM_OPCODE 2 u8\n\nset tc-fw-attrs\n  attr TCA_FW_CLASSID 1 u32\n  at\
-    tr TCA_FW_POLICE 2 nest=tc-police-attrs\n  attr TCA_FW_INDEV 3 text\n  attr TCA_FW_ACT 4 nest=\
-    tc-fw-attrs.act\n  attr TCA_FW_MASK 5 u32\n\nset tc-fw-attrs.act\n  each index nest=tc-act-att\
-    rs\n\nset tc-gred-attrs\n  attr TCA_GRED_PARMS 1 struct=tc_gred_qopt array\n  attr TCA_GRED_ST\
-    AB 2 u8 array\n  attr TCA_GRED_DPS 3 struct=tc_gred_sopt\n  attr TCA_GRED_MAX_P 4 u32 arra\
-    y\n  attr TCA_GRED_LIMIT 5 u32\n  attr TCA_GRED_VQ_LIST 6 nest=tca-gred-vq-list-attrs\n\nset t\
-    ca-gred-vq-list-attrs\n  attr TCA_GRED_VQ_ENTRY 1 nest=tca-gred-vq-entry-attrs multi\n\nset tc\
-    a-gred-vq-entry-attrs\n  attr TCA_GRED_VQ_PAD 1 pad\n  attr TCA_GRED_VQ_DP 2 u32\n  attr TCA_G\
-    RED_VQ_STAT_BYTES 3 u64\n  attr TCA_GRED_VQ_STAT_PACKETS 4 u32\n  attr TCA_GRED_VQ_STAT_BACKLO\
-    G 5 u32\n  attr TCA_GRED_VQ_STAT_PROB_DROP 6 u32\n  attr TCA_GRED_VQ_STAT_PROB_MARK 7 u32\n  a\
-    ttr TCA_GRED_VQ_STAT_FORCED_DROP 8 u32\n  attr TCA_GRED_VQ_STAT_FORCED_MARK 9 u32\n  attr TCA_\
-    GRED_VQ_STAT_PDROP 10 u32\n  attr TCA_GRED_VQ_STAT_OTHER 11 u32\n  attr TCA_GRED_VQ_FLAGS 12 u\
-    32\n\nset tc-hfsc-attrs\n  attr TCA_HFSC_RSC 1 struct=tc_service_curve\n  attr TCA_HFSC_FSC 2 \
-    struct=tc_service_curve\n  attr TCA_HFSC_USC 3 struct=tc_service_curve\n\nset tc-hhf-attrs\n  \
-    attr TCA_HHF_BACKLOG_LIMIT 1 u32\n  attr TCA_HHF_QUANTUM 2 u32\n  attr TCA_HHF_HH_FLOWS_LIMIT \
-    3 u32\n  attr TCA_HHF_RESET_TIMEOUT 4 u32\n  attr TCA_HHF_ADMIT_BYTES 5 u32\n  attr TCA_HHF_EV\
-    ICT_TIMEOUT 6 u32\n  attr TCA_HHF_NON_HH_WEIGHT 7 u32\n\nset tc-htb-attrs\n  attr TCA_HTB_PARM\
-    S 1 struct=tc_htb_opt\n  attr TCA_HTB_INIT 2 struct=tc_htb_glob\n  attr TCA_HTB_CTAB 3 u32 arr\
-    ay\n  attr TCA_HTB_RTAB 4 u32 array\n  attr TCA_HTB_DIRECT_QLEN 5 u32\n  attr TCA_HTB_RATE64 \
-    6 u64\n  attr TCA_HTB_CEIL64 7 u64\n  attr TCA_HTB_PAD 8 pad\n  attr TCA_HTB_OFFLOAD 9 fla\
-    g\n\nset tc-matchall-attrs\n  attr TCA_MATCHALL_CLASSID 1 u32\n  attr TCA_MATCHALL_ACT 2 nest=\
-    tc-matchall-attrs.act\n  attr TCA_MATCHALL_FLAGS 3 u32\n  attr TCA_MATCHALL_PCNT 4 struct=tc_m\
-    atchall_pcnt\n  attr TCA_MATCHALL_PAD 5 pad\n\nset tc-matchall-attrs.act\n  each index nest=tc\
-    -act-attrs\n\nset tc-etf-attrs\n  attr TCA_ETF_PARMS 1 struct=tc_etf_qopt\n\nset tc-ets-attr\
-    s\n  attr TCA_ETS_NBANDS 1 u8\n  attr TCA_ETS_NSTRICT 2 u8\n  attr TCA_ETS_QUANTA 3 nest=tc-et\
-    s-attrs\n  attr TCA_ETS_QUANTA_BAND 4 u32 multi\n  attr TCA_ETS_PRIOMAP 5 nest=tc-ets-attr\
-    s\n  attr TCA_ETS_PRIOMAP_BAND 6 u8 multi\n\nset tc-fq-attrs\n  attr TCA_FQ_PLIMIT 1 u32\n  at\
-    tr TCA_FQ_FLOW_PLIMIT 2 u32\n  attr TCA_FQ_QUANTUM 3 u32\n  attr TCA_FQ_INITIAL_QUANTUM 4 u3\
-    2\n  attr TCA_FQ_RATE_ENABLE 5 u32\n  attr TCA_FQ_FLOW_DEFAULT_RATE 6 u32\n  attr TCA_FQ_FLOW_\
-    MAX_RATE 7 u32\n  attr TCA_FQ_BUCKETS_LOG 8 u32\n  attr TCA_FQ_FLOW_REFILL_DELAY 9 u32\n  att\
-    r TCA_FQ_ORPHAN_MASK 10 u32\n  attr TCA_FQ_LOW_RATE_THRESHOLD 11 u32\n  attr TCA_FQ_CE_THRESHO\
-    LD 12 u32\n  attr TCA_FQ_TIMER_SLACK 13 u32\n  attr TCA_FQ_HORIZON 14 u32\n  attr TCA_FQ_HORIZ\
-    ON_DROP 15 u8\n  attr TCA_FQ_PRIOMAP 16 struct=tc_prio_qopt\n  attr TCA_FQ_WEIGHTS 17 s32 arra\
-    y\n\nset tc-fq-codel-attrs\n  attr TCA_FQ_CODEL_TARGET 1 u32\n  attr TCA_FQ_CODEL_LIMIT 2 u3\
-    2\n  attr TCA_FQ_CODEL_INTERVAL 3 u32\n  attr TCA_FQ_CODEL_ECN 4 u32\n  attr TCA_FQ_CODEL_FLOW\
-    S 5 u32\n  attr TCA_FQ_CODEL_QUANTUM 6 u32\n  attr TCA_FQ_CODEL_CE_THRESHOLD 7 u32\n  attr TCA\
-    _FQ_CODEL_DROP_BATCH_SIZE 8 u32\n  attr TCA_FQ_CODEL_MEMORY_LIMIT 9 u32\n  attr TCA_FQ_CODEL_C\
-    E_THRESHOLD_SELECTOR 10 u8\n  attr TCA_FQ_CODEL_CE_THRESHOLD_MASK 11 u8\n\nset tc-fq-pie-attr\
-    s\n  attr TCA_FQ_PIE_LIMIT 1 u32\n  attr TCA_FQ_PIE_FLOWS 2 u32\n  attr TCA_FQ_PIE_TARGET 3 u3\
-    2\n  attr TCA_FQ_PIE_TUPDATE 4 u32\n  attr TCA_FQ_PIE_ALPHA 5 u32\n  attr TCA_FQ_PIE_BETA 6 u3\
-    2\n  attr TCA_FQ_PIE_QUANTUM 7 u32\n  attr TCA_FQ_PIE_MEMORY_LIMIT 8 u32\n  attr TCA_FQ_PIE_EC\
-    N_PROB 9 u32\n  attr TCA_FQ_PIE_ECN 10 u32\n  attr TCA_FQ_PIE_BYTEMODE 11 u32\n  attr TCA_FQ_P\
-    IE_DQ_RATE_ESTIMATOR 12 u32\n\nset tc-netem-attrs\n  attr TCA_NETEM_CORR 1 struct=tc_netem_cor\
-    r\n  attr TCA_NETEM_DELAY_DIST 2 s16 array\n  attr TCA_NETEM_REORDER 3 struct=tc_netem_reorde\
-    r\n  attr TCA_NETEM_CORRUPT 4 struct=tc_netem_corrupt\n  attr TCA_NETEM_LOSS 5 nest=tc-netem-l\
-    oss-attrs\n  attr TCA_NETEM_RATE 6 struct=tc_netem_rate\n  attr TCA_NETEM_ECN 7 u32\n  attr TC\
-    A_NETEM_RATE64 8 u64\n  attr TCA_NETEM_PAD 9 pad\n  attr TCA_NETEM_LATENCY64 10 s64\n  attr TC\
-    A_NETEM_JITTER64 11 s64\n  attr TCA_NETEM_SLOT 12 struct=tc_netem_slot\n  attr TCA_NETEM_SLOT_\
-    DIST 13 s16 array\n  attr TCA_NETEM_PRNG_SEED 14 u64\n\nset tc-netem-loss-attrs\n  attr NETEM_\
-    LOSS_GI 1 struct=tc_netem_gimodel\n  attr NETEM_LOSS_GE 2 struct=tc_netem_gemodel\n\nset tc-pi\
-    e-attrs\n  attr TCA_PIE_TARGET 1 u32\n  attr TCA_PIE_LIMIT 2 u32\n  attr TCA_PIE_TUPDATE 3 u3\
-    2\n  attr TCA_PIE_ALPHA 4 u32\n  attr TCA_PIE_BETA 5 u32\n  attr TCA_PIE_ECN 6 u32\n  attr TCA\
-    _PIE_BYTEMODE 7 u32\n  attr TCA_PIE_DQ_RATE_ESTIMATOR 8 u32\n\nset tc-police-attrs\n  attr TCA\
-    _POLICE_TBF 1 struct=tc_police\n  attr TCA_POLICE_RATE 2 u32 array\n  attr TCA_POLICE_PEAKRAT\
-    E 3 u32 array\n  attr TCA_POLICE_AVRATE 4 u32\n  attr TCA_POLICE_RESULT 5 u32\n  attr TCA_POLI\
-    CE_TM 6 struct=tcf_t\n  attr TCA_POLICE_PAD 7 pad\n  attr TCA_POLICE_RATE64 8 u64\n  attr TCA_\
-    POLICE_PEAKRATE64 9 u64\n  attr TCA_POLICE_PKTRATE64 10 u64\n  attr TCA_POLICE_PKTBURST64 11 u\
-    64\n\nset tc-qfq-attrs\n  attr TCA_QFQ_WEIGHT 1 u32\n  attr TCA_QFQ_LMAX 2 u32\n\nset tc-red-a\
-    ttrs\n  attr TCA_RED_PARMS 1 struct=tc_red_qopt\n  attr TCA_RED_STAB 2 bytes\n  attr TCA_RED_M\
-    AX_P 3 u32\n  attr TCA_RED_FLAGS 4 bits\n  attr TCA_RED_EARLY_DROP_BLOCK 5 u32\n  attr TCA_RED\
-    _MARK_BLOCK 6 u32\n\nset tc-route-attrs\n  attr TCA_ROUTE4_CLASSID 1 u32\n  attr TCA_ROUTE4_T\
-    O 2 u32\n  attr TCA_ROUTE4_FROM 3 u32\n  attr TCA_ROUTE4_IIF 4 u32\n  attr TCA_ROUTE4_POLICE \
-    5 nest=tc-police-attrs\n  attr TCA_ROUTE4_ACT 6 nest=tc-route-attrs.act\n\nset tc-route-attrs.\
-    act\n  each index nest=tc-act-attrs\n\nset tc-taprio-attrs\n  attr TCA_TAPRIO_ATTR_PRIOMAP 1 s\
-    truct=tc_mqprio_qopt\n  attr TCA_TAPRIO_ATTR_SCHED_ENTRY_LIST 2 nest=tc-taprio-sched-entry-lis\
+    an-attrs strict-from=7\n  attr TCA_VLAN_TM 1 struct=tcf_t\n  attr TCA_VLAN_PARMS 2 struct=tc_v\
+    lan\n  attr TCA_VLAN_PUSH_VLAN_ID 3 u16\n  attr TCA_VLAN_PUSH_VLAN_PROTOCOL 4 be16 hex\n  att\
+    r TCA_VLAN_PAD 5 pad\n  attr TCA_VLAN_PUSH_VLAN_PRIORITY 6 u8\n  attr TCA_VLAN_PUSH_ETH_DST 7 \
+    hardware\n  attr TCA_VLAN_PUSH_ETH_SRC 8 hardware\n\nset tc-basic-attrs\n  attr TCA_BASIC_CLAS\
+    SID 1 u32\n  attr TCA_BASIC_EMATCHES 2 nest=tc-ematch-attrs\n  attr TCA_BASIC_ACT 3 nest=tc-ba\
+    sic-attrs.act\n  attr TCA_BASIC_POLICE 4 nest=tc-police-attrs\n  attr TCA_BASIC_PCNT 5 struct=\
+    tc_basic_pcnt\n  attr TCA_BASIC_PAD 6 pad\n\nset tc-basic-attrs.act\n  each index nest=tc-act-\
+    attrs\n\nset tc-bpf-attrs\n  attr TCA_BPF_ACT 1 nest=tc-bpf-attrs.act\n  attr TCA_BPF_POLICE \
+    2 nest=tc-police-attrs\n  attr TCA_BPF_CLASSID 3 u32\n  attr TCA_BPF_OPS_LEN 4 u16\n  attr TCA\
+    _BPF_OPS 5 struct=sock_filter array\n  attr TCA_BPF_FD 6 u32\n  attr TCA_BPF_NAME 7 text\n  at\
+    tr TCA_BPF_FLAGS 8 u32\n  attr TCA_BPF_FLAGS_GEN 9 u32\n  attr TCA_BPF_TAG 10 bytes\n  attr TC\
+    A_BPF_ID 11 u32\n\nset tc-bpf-attrs.act\n  each index nest=tc-act-attrs\n\nset tc-cake-attr\
+    s\n  attr TCA_CAKE_PAD 1 pad\n  attr TCA_CAKE_BASE_RATE64 2 u64\n  attr TCA_CAKE_DIFFSERV_MOD\
+    E 3 u32\n  attr TCA_CAKE_ATM 4 u32\n  attr TCA_CAKE_FLOW_MODE 5 u32\n  attr TCA_CAKE_OVERHEAD \
+    6 s32\n  attr TCA_CAKE_RTT 7 u32\n  attr TCA_CAKE_TARGET 8 u32\n  attr TCA_CAKE_AUTORATE 9 u3\
+    2\n  attr TCA_CAKE_MEMORY 10 u32\n  attr TCA_CAKE_NAT 11 u32\n  attr TCA_CAKE_RAW 12 u32\n  at\
+    tr TCA_CAKE_WASH 13 u32\n  attr TCA_CAKE_MPU 14 u32\n  attr TCA_CAKE_INGRESS 15 u32\n  attr TC\
+    A_CAKE_ACK_FILTER 16 u32\n  attr TCA_CAKE_SPLIT_GSO 17 u32\n  attr TCA_CAKE_FWMARK 18 u32\n\ns\
+    et tc-cake-stats-attrs\n  attr TCA_CAKE_STATS_PAD 1 pad\n  attr TCA_CAKE_STATS_CAPACITY_ESTIMA\
+    TE64 2 u64\n  attr TCA_CAKE_STATS_MEMORY_LIMIT 3 u32\n  attr TCA_CAKE_STATS_MEMORY_USED 4 u3\
+    2\n  attr TCA_CAKE_STATS_AVG_NETOFF 5 u32\n  attr TCA_CAKE_STATS_MIN_NETLEN 6 u32\n  attr TCA_\
+    CAKE_STATS_MAX_NETLEN 7 u32\n  attr TCA_CAKE_STATS_MIN_ADJLEN 8 u32\n  attr TCA_CAKE_STATS_MAX\
+    _ADJLEN 9 u32\n  attr TCA_CAKE_STATS_TIN_STATS 10 nest=tc-cake-stats-attrs.tin-stats\n  attr T\
+    CA_CAKE_STATS_DEFICIT 11 s32\n  attr TCA_CAKE_STATS_COBALT_COUNT 12 u32\n  attr TCA_CAKE_STATS\
+    _DROPPING 13 u32\n  attr TCA_CAKE_STATS_DROP_NEXT_US 14 s32\n  attr TCA_CAKE_STATS_P_DROP 15 u\
+    32\n  attr TCA_CAKE_STATS_BLUE_TIMER_US 16 s32\n\nset tc-cake-stats-attrs.tin-stats\n  each in\
+    dex nest=tc-cake-tin-stats-attrs\n\nset tc-cake-tin-stats-attrs\n  attr TCA_CAKE_TIN_STATS_PA\
+    D 1 pad\n  attr TCA_CAKE_TIN_STATS_SENT_PACKETS 2 u32\n  attr TCA_CAKE_TIN_STATS_SENT_BYTES64 \
+    3 u64\n  attr TCA_CAKE_TIN_STATS_DROPPED_PACKETS 4 u32\n  attr TCA_CAKE_TIN_STATS_DROPPED_BYTE\
+    S64 5 u64\n  attr TCA_CAKE_TIN_STATS_ACKS_DROPPED_PACKETS 6 u32\n  attr TCA_CAKE_TIN_STATS_ACK\
+    S_DROPPED_BYTES64 7 u64\n  attr TCA_CAKE_TIN_STATS_ECN_MARKED_PACKETS 8 u32\n  attr TCA_CAKE_T\
+    IN_STATS_ECN_MARKED_BYTES64 9 u64\n  attr TCA_CAKE_TIN_STATS_BACKLOG_PACKETS 10 u32\n  attr TC\
+    A_CAKE_TIN_STATS_BACKLOG_BYTES 11 u32\n  attr TCA_CAKE_TIN_STATS_THRESHOLD_RATE64 12 u64\n  at\
+    tr TCA_CAKE_TIN_STATS_TARGET_US 13 u32\n  attr TCA_CAKE_TIN_STATS_INTERVAL_US 14 u32\n  attr T\
+    CA_CAKE_TIN_STATS_WAY_INDIRECT_HITS 15 u32\n  attr TCA_CAKE_TIN_STATS_WAY_MISSES 16 u32\n  att\
+    r TCA_CAKE_TIN_STATS_WAY_COLLISIONS 17 u32\n  attr TCA_CAKE_TIN_STATS_PEAK_DELAY_US 18 u32\n  \
+    attr TCA_CAKE_TIN_STATS_AVG_DELAY_US 19 u32\n  attr TCA_CAKE_TIN_STATS_BASE_DELAY_US 20 u3\
+    2\n  attr TCA_CAKE_TIN_STATS_SPARSE_FLOWS 21 u32\n  attr TCA_CAKE_TIN_STATS_BULK_FLOWS 22 u3\
+    2\n  attr TCA_CAKE_TIN_STATS_UNRESPONSIVE_FLOWS 23 u32\n  attr TCA_CAKE_TIN_STATS_MAX_SKBLEN 2\
+    4 u32\n  attr TCA_CAKE_TIN_STATS_FLOW_QUANTUM 25 u32\n\nset tc-cbs-attrs\n  attr TCA_CBS_PARM\
+    S 1 struct=tc_cbs_qopt\n\nset tc-cgroup-attrs\n  attr TCA_CGROUP_ACT 1 nest=tc-cgroup-attrs.ac\
+    t\n  attr TCA_CGROUP_POLICE 2 nest=tc-police-attrs\n  attr TCA_CGROUP_EMATCHES 3 nest=tc-ematc\
+    h-attrs\n\nset tc-cgroup-attrs.act\n  each index nest=tc-act-attrs\n\nset tc-choke-attrs\n  at\
+    tr TCA_CHOKE_PARMS 1 struct=tc_red_qopt\n  attr TCA_CHOKE_STAB 2 bytes length=256\n  attr TCA_\
+    CHOKE_MAX_P 3 u32\n\nset tc-codel-attrs\n  attr TCA_CODEL_TARGET 1 u32\n  attr TCA_CODEL_LIMI\
+    T 2 u32\n  attr TCA_CODEL_INTERVAL 3 u32\n  attr TCA_CODEL_ECN 4 u32\n  attr TCA_CODEL_CE_THRE\
+    SHOLD 5 u32\n\nset tc-drr-attrs\n  attr TCA_DRR_QUANTUM 1 u32\n\nset tc-ematch-attrs\n  attr T\
+    CA_EMATCH_TREE_HDR 1 struct=tcf_ematch_tree_hdr\n  attr TCA_EMATCH_TREE_LIST 2 nest=ematche\
+    s\n\nset tc-flow-attrs\n  attr TCA_FLOW_KEYS 1 u32\n  attr TCA_FLOW_MODE 2 u32\n  attr TCA_FLO\
+    W_BASECLASS 3 u32\n  attr TCA_FLOW_RSHIFT 4 u32\n  attr TCA_FLOW_ADDEND 5 u32\n  attr TCA_FLOW\
+    _MASK 6 u32\n  attr TCA_FLOW_XOR 7 u32\n  attr TCA_FLOW_DIVISOR 8 u32\n  attr TCA_FLOW_ACT 9 n\
+    est=tc-fw-attrs.act\n  attr TCA_FLOW_POLICE 10 nest=tc-police-attrs\n  attr TCA_FLOW_EMATCHES \
+    11 nest=tc-ematch-attrs\n  attr TCA_FLOW_PERTURB 12 u32\n\nset tc-flower-attrs strict-from=10\
+    6\n  attr TCA_FLOWER_CLASSID 1 u32\n  attr TCA_FLOWER_INDEV 2 text\n  attr TCA_FLOWER_ACT 3 ne\
+    st=tc-flower-attrs.act\n  attr TCA_FLOWER_KEY_ETH_DST 4 hardware\n  attr TCA_FLOWER_KEY_ETH_DS\
+    T_MASK 5 hardware\n  attr TCA_FLOWER_KEY_ETH_SRC 6 hardware\n  attr TCA_FLOWER_KEY_ETH_SRC_MAS\
+    K 7 hardware\n  attr TCA_FLOWER_KEY_ETH_TYPE 8 be16\n  attr TCA_FLOWER_KEY_IP_PROTO 9 u8\n  at\
+    tr TCA_FLOWER_KEY_IPV4_SRC 10 ipv4\n  attr TCA_FLOWER_KEY_IPV4_SRC_MASK 11 ipv4\n  attr TCA_FL\
+    OWER_KEY_IPV4_DST 12 ipv4\n  attr TCA_FLOWER_KEY_IPV4_DST_MASK 13 ipv4\n  attr TCA_FLOWER_KEY_\
+    IPV6_SRC 14 ip\n  attr TCA_FLOWER_KEY_IPV6_SRC_MASK 15 ip\n  attr TCA_FLOWER_KEY_IPV6_DST 16 i\
+    p\n  attr TCA_FLOWER_KEY_IPV6_DST_MASK 17 ip\n  attr TCA_FLOWER_KEY_TCP_SRC 18 be16\n  attr TC\
+    A_FLOWER_KEY_TCP_DST 19 be16\n  attr TCA_FLOWER_KEY_UDP_SRC 20 be16\n  attr TCA_FLOWER_KEY_UDP\
+    _DST 21 be16\n  attr TCA_FLOWER_FLAGS 22 u32 flags=tc-cls-flags\n  attr TCA_FLOWER_KEY_VLAN_I\
+    D 23 be16\n  attr TCA_FLOWER_KEY_VLAN_PRIO 24 u8\n  attr TCA_FLOWER_KEY_VLAN_ETH_TYPE 25 be1\
+    6\n  attr TCA_FLOWER_KEY_ENC_KEY_ID 26 be32\n  attr TCA_FLOWER_KEY_ENC_IPV4_SRC 27 ipv4\n  att\
+    r TCA_FLOWER_KEY_ENC_IPV4_SRC_MASK 28 ipv4\n  attr TCA_FLOWER_KEY_ENC_IPV4_DST 29 ipv4\n  att\
+    r TCA_FLOWER_KEY_ENC_IPV4_DST_MASK 30 ipv4\n  attr TCA_FLOWER_KEY_ENC_IPV6_SRC 31 ip\n  attr T\
+    CA_FLOWER_KEY_ENC_IPV6_SRC_MASK 32 ip\n  attr TCA_FLOWER_KEY_ENC_IPV6_DST 33 ip\n  attr TCA_FL\
+    OWER_KEY_ENC_IPV6_DST_MASK 34 ip\n  attr TCA_FLOWER_KEY_TCP_SRC_MASK 35 be16\n  attr TCA_FLOWE\
+    R_KEY_TCP_DST_MASK 36 be16\n  attr TCA_FLOWER_KEY_UDP_SRC_MASK 37 be16\n  attr TCA_FLOWER_KEY_\
+    UDP_DST_MASK 38 be16\n  attr TCA_FLOWER_KEY_SCTP_SRC_MASK 39 be16\n  attr TCA_FLOWER_KEY_SCTP_\
+    DST_MASK 40 be16\n  attr TCA_FLOWER_KEY_SCTP_SRC 41 be16\n  attr TCA_FLOWER_KEY_SCTP_DST 42 be\
+    16\n  attr TCA_FLOWER_KEY_ENC_UDP_SRC_PORT 43 be16\n  attr TCA_FLOWER_KEY_ENC_UDP_SRC_PORT_MAS\
+    K 44 be16\n  attr TCA_FLOWER_KEY_ENC_UDP_DST_PORT 45 be16\n  attr TCA_FLOWER_KEY_ENC_UDP_DST_P\
+    ORT_MASK 46 be16\n  attr TCA_FLOWER_KEY_FLAGS 47 be32 flags=tc-flower-key-ctrl-flags\n  attr T\
+    CA_FLOWER_KEY_FLAGS_MASK 48 be32 flags=tc-flower-key-ctrl-flags\n  attr TCA_FLOWER_KEY_ICMPV4_\
+    CODE 49 u8\n  attr TCA_FLOWER_KEY_ICMPV4_CODE_MASK 50 u8\n  attr TCA_FLOWER_KEY_ICMPV4_TYPE 5\
+    1 u8\n  attr TCA_FLOWER_KEY_ICMPV4_TYPE_MASK 52 u8\n  attr TCA_FLOWER_KEY_ICMPV6_CODE 53 u\
+    8\n  attr TCA_FLOWER_KEY_ICMPV6_CODE_MASK 54 u8\n  attr TCA_FLOWER_KEY_ICMPV6_TYPE 55 u8\n  at\
+    tr TCA_FLOWER_KEY_ICMPV6_TYPE_MASK 56 u8\n  attr TCA_FLOWER_KEY_ARP_SIP 57 be32\n  attr TCA_FL\
+    OWER_KEY_ARP_SIP_MASK 58 be32\n  attr TCA_FLOWER_KEY_ARP_TIP 59 be32\n  attr TCA_FLOWER_KEY_AR\
+    P_TIP_MASK 60 be32\n  attr TCA_FLOWER_KEY_ARP_OP 61 u8\n  attr TCA_FLOWER_KEY_ARP_OP_MASK 62 u\
+    8\n  attr TCA_FLOWER_KEY_ARP_SHA 63 hardware\n  attr TCA_FLOWER_KEY_ARP_SHA_MASK 64 hardwar\
+    e\n  attr TCA_FLOWER_KEY_ARP_THA 65 hardware\n  attr TCA_FLOWER_KEY_ARP_THA_MASK 66 hardwar\
+    e\n  attr TCA_FLOWER_KEY_MPLS_TTL 67 u8\n  attr TCA_FLOWER_KEY_MPLS_BOS 68 u8\n  attr TCA_FLOW\
+    ER_KEY_MPLS_TC 69 u8\n  attr TCA_FLOWER_KEY_MPLS_LABEL 70 u32\n  attr TCA_FLOWER_KEY_TCP_FLAG\
+    S 71 be16\n  attr TCA_FLOWER_KEY_TCP_FLAGS_MASK 72 be16\n  attr TCA_FLOWER_KEY_IP_TOS 73 u\
+    8\n  attr TCA_FLOWER_KEY_IP_TOS_MASK 74 u8\n  attr TCA_FLOWER_KEY_IP_TTL 75 u8\n  attr TCA_FLO\
+    WER_KEY_IP_TTL_MASK 76 u8\n  attr TCA_FLOWER_KEY_CVLAN_ID 77 be16\n  attr TCA_FLOWER_KEY_CVLAN\
+    _PRIO 78 u8\n  attr TCA_FLOWER_KEY_CVLAN_ETH_TYPE 79 be16\n  attr TCA_FLOWER_KEY_ENC_IP_TOS 8\
+    0 u8\n  attr TCA_FLOWER_KEY_ENC_IP_TOS_MASK 81 u8\n  attr TCA_FLOWER_KEY_ENC_IP_TTL 82 u8\n  a\
+    ttr TCA_FLOWER_KEY_ENC_IP_TTL_MASK 83 u8\n  attr TCA_FLOWER_KEY_ENC_OPTS 84 nest=tc-flower-key\
+    -enc-opts-attrs\n  attr TCA_FLOWER_KEY_ENC_OPTS_MASK 85 nest=tc-flower-key-enc-opts-attrs\n  a\
+    ttr TCA_FLOWER_IN_HW_COUNT 86 u32\n  attr TCA_FLOWER_KEY_PORT_SRC_MIN 87 be16\n  attr TCA_FLOW\
+    ER_KEY_PORT_SRC_MAX 88 be16\n  attr TCA_FLOWER_KEY_PORT_DST_MIN 89 be16\n  attr TCA_FLOWER_KEY\
+    _PORT_DST_MAX 90 be16\n  attr TCA_FLOWER_KEY_CT_STATE 91 u16\n  attr TCA_FLOWER_KEY_CT_STATE_M\
+    ASK 92 u16\n  attr TCA_FLOWER_KEY_CT_ZONE 93 u16\n  attr TCA_FLOWER_KEY_CT_ZONE_MASK 94 u1\
+    6\n  attr TCA_FLOWER_KEY_CT_MARK 95 u32\n  attr TCA_FLOWER_KEY_CT_MARK_MASK 96 u32\n  attr TCA\
+    _FLOWER_KEY_CT_LABELS 97 bytes\n  attr TCA_FLOWER_KEY_CT_LABELS_MASK 98 bytes\n  attr TCA_FLOW\
+    ER_KEY_MPLS_OPTS 99 nest=mpls-options\n  attr TCA_FLOWER_KEY_HASH 100 u32\n  attr TCA_FLOWER_K\
+    EY_HASH_MASK 101 u32\n  attr TCA_FLOWER_KEY_NUM_OF_VLANS 102 u8\n  attr TCA_FLOWER_KEY_PPPOE_S\
+    ID 103 be16\n  attr TCA_FLOWER_KEY_PPP_PROTO 104 be16\n  attr TCA_FLOWER_KEY_L2TPV3_SID 105 be\
+    32\n  attr TCA_FLOWER_L2_MISS 106 u8\n  attr TCA_FLOWER_KEY_CFM 107 nest=tc-flower-key-cfm-att\
+    rs\n  attr TCA_FLOWER_KEY_SPI 108 be32\n  attr TCA_FLOWER_KEY_SPI_MASK 109 be32\n  attr TCA_FL\
+    OWER_KEY_ENC_FLAGS 110 be32 flags=tc-flower-key-ctrl-flags\n  attr TCA_FLOWER_KEY_ENC_FLAGS_MA\
+    SK 111 be32 flags=tc-flower-key-ctrl-flags\n\nset tc-flower-attrs.act\n  each index nest=tc-ac\
+    t-attrs\n\nset tc-flower-key-enc-opts-attrs strict-from=2\n  attr TCA_FLOWER_KEY_ENC_OPTS_GENE\
+    VE 1 nest=tc-flower-key-enc-opt-geneve-attrs\n  attr TCA_FLOWER_KEY_ENC_OPTS_VXLAN 2 nest=tc-f\
+    lower-key-enc-opt-vxlan-attrs\n  attr TCA_FLOWER_KEY_ENC_OPTS_ERSPAN 3 nest=tc-flower-key-enc-\
+    opt-erspan-attrs\n  attr TCA_FLOWER_KEY_ENC_OPTS_GTP 4 nest=tc-flower-key-enc-opt-gtp-attr\
+    s\n\nset tc-flower-key-enc-opt-geneve-attrs\n  attr TCA_FLOWER_KEY_ENC_OPT_GENEVE_CLASS 1 be1\
+    6\n  attr TCA_FLOWER_KEY_ENC_OPT_GENEVE_TYPE 2 u8\n  attr TCA_FLOWER_KEY_ENC_OPT_GENEVE_DATA \
+    3 bytes length=0..127\n\nset tc-flower-key-enc-opt-vxlan-attrs\n  attr TCA_FLOWER_KEY_ENC_OPT_\
+    VXLAN_GBP 1 u32\n\nset tc-flower-key-enc-opt-erspan-attrs\n  attr TCA_FLOWER_KEY_ENC_OPT_ERSPA\
+    N_VER 1 u8\n  attr TCA_FLOWER_KEY_ENC_OPT_ERSPAN_INDEX 2 be32\n  attr TCA_FLOWER_KEY_ENC_OPT_E\
+    RSPAN_DIR 3 u8\n  attr TCA_FLOWER_KEY_ENC_OPT_ERSPAN_HWID 4 u8\n\nset tc-flower-key-enc-opt-gt\
+    p-attrs\n  attr TCA_FLOWER_KEY_ENC_OPT_GTP_PDU_TYPE 1 u8\n  attr TCA_FLOWER_KEY_ENC_OPT_GTP_QF\
+    I 2 u8\n\nset tc-flower-key-mpls-opt-attrs\n  attr TCA_FLOWER_KEY_MPLS_OPT_LSE_DEPTH 1 u8\n  a\
+    ttr TCA_FLOWER_KEY_MPLS_OPT_LSE_TTL 2 u8\n  attr TCA_FLOWER_KEY_MPLS_OPT_LSE_BOS 3 u8\n  attr \
+    TCA_FLOWER_KEY_MPLS_OPT_LSE_TC 4 u8\n  attr TCA_FLOWER_KEY_MPLS_OPT_LSE_LABEL 5 u32\n\nset tc-\
+    flower-key-cfm-attrs\n  attr TCA_FLOWER_KEY_CFM_MD_LEVEL 1 u8\n  attr TCA_FLOWER_KEY_CFM_OPCOD\
+    E 2 u8\n\nset tc-fw-attrs\n  attr TCA_FW_CLASSID 1 u32\n  attr TCA_FW_POLICE 2 nest=tc-police-\
+    attrs\n  attr TCA_FW_INDEV 3 text\n  attr TCA_FW_ACT 4 nest=tc-fw-attrs.act\n  attr TCA_FW_MAS\
+    K 5 u32\n\nset tc-fw-attrs.act\n  each index nest=tc-act-attrs\n\nset tc-gred-attrs\n  attr TC\
+    A_GRED_PARMS 1 struct=tc_gred_qopt array\n  attr TCA_GRED_STAB 2 u8 array\n  attr TCA_GRED_DP\
+    S 3 struct=tc_gred_sopt\n  attr TCA_GRED_MAX_P 4 u32 array\n  attr TCA_GRED_LIMIT 5 u32\n  att\
+    r TCA_GRED_VQ_LIST 6 nest=tca-gred-vq-list-attrs\n\nset tca-gred-vq-list-attrs\n  attr TCA_GRE\
+    D_VQ_ENTRY 1 nest=tca-gred-vq-entry-attrs multi\n\nset tca-gred-vq-entry-attrs\n  attr TCA_GRE\
+    D_VQ_PAD 1 pad\n  attr TCA_GRED_VQ_DP 2 u32\n  attr TCA_GRED_VQ_STAT_BYTES 3 u64\n  attr TCA_G\
+    RED_VQ_STAT_PACKETS 4 u32\n  attr TCA_GRED_VQ_STAT_BACKLOG 5 u32\n  attr TCA_GRED_VQ_STAT_PROB\
+    _DROP 6 u32\n  attr TCA_GRED_VQ_STAT_PROB_MARK 7 u32\n  attr TCA_GRED_VQ_STAT_FORCED_DROP 8 u3\
+    2\n  attr TCA_GRED_VQ_STAT_FORCED_MARK 9 u32\n  attr TCA_GRED_VQ_STAT_PDROP 10 u32\n  attr TCA\
+    _GRED_VQ_STAT_OTHER 11 u32\n  attr TCA_GRED_VQ_FLAGS 12 u32\n\nset tc-hfsc-attrs\n  attr TCA_H\
+    FSC_RSC 1 struct=tc_service_curve\n  attr TCA_HFSC_FSC 2 struct=tc_service_curve\n  attr TCA_H\
+    FSC_USC 3 struct=tc_service_curve\n\nset tc-hhf-attrs\n  attr TCA_HHF_BACKLOG_LIMIT 1 u32\n  a\
+    ttr TCA_HHF_QUANTUM 2 u32\n  attr TCA_HHF_HH_FLOWS_LIMIT 3 u32\n  attr TCA_HHF_RESET_TIMEOUT \
+    4 u32\n  attr TCA_HHF_ADMIT_BYTES 5 u32\n  attr TCA_HHF_EVICT_TIMEOUT 6 u32\n  attr TCA_HHF_NO\
+    N_HH_WEIGHT 7 u32\n\nset tc-htb-attrs\n  attr TCA_HTB_PARMS 1 struct=tc_htb_opt\n  attr TCA_HT\
+    B_INIT 2 struct=tc_htb_glob\n  attr TCA_HTB_CTAB 3 u32 array\n  attr TCA_HTB_RTAB 4 u32 arra\
+    y\n  attr TCA_HTB_DIRECT_QLEN 5 u32\n  attr TCA_HTB_RATE64 6 u64\n  attr TCA_HTB_CEIL64 7 u6\
+    4\n  attr TCA_HTB_PAD 8 pad\n  attr TCA_HTB_OFFLOAD 9 flag\n\nset tc-matchall-attrs\n  attr TC\
+    A_MATCHALL_CLASSID 1 u32\n  attr TCA_MATCHALL_ACT 2 nest=tc-matchall-attrs.act\n  attr TCA_MAT\
+    CHALL_FLAGS 3 u32\n  attr TCA_MATCHALL_PCNT 4 struct=tc_matchall_pcnt\n  attr TCA_MATCHALL_PA\
+    D 5 pad\n\nset tc-matchall-attrs.act\n  each index nest=tc-act-attrs\n\nset tc-etf-attrs\n  at\
+    tr TCA_ETF_PARMS 1 struct=tc_etf_qopt\n\nset tc-ets-attrs\n  attr TCA_ETS_NBANDS 1 u8\n  attr \
+    TCA_ETS_NSTRICT 2 u8\n  attr TCA_ETS_QUANTA 3 nest=tc-ets-attrs\n  attr TCA_ETS_QUANTA_BAND 4 \
+    u32 multi\n  attr TCA_ETS_PRIOMAP 5 nest=tc-ets-attrs\n  attr TCA_ETS_PRIOMAP_BAND 6 u8 mult\
+    i\n\nset tc-fq-attrs strict-from=13\n  attr TCA_FQ_PLIMIT 1 u32\n  attr TCA_FQ_FLOW_PLIMIT 2 u\
+    32\n  attr TCA_FQ_QUANTUM 3 u32\n  attr TCA_FQ_INITIAL_QUANTUM 4 u32\n  attr TCA_FQ_RATE_ENABL\
+    E 5 u32\n  attr TCA_FQ_FLOW_DEFAULT_RATE 6 u32\n  attr TCA_FQ_FLOW_MAX_RATE 7 u32\n  attr TCA_\
+    FQ_BUCKETS_LOG 8 u32\n  attr TCA_FQ_FLOW_REFILL_DELAY 9 u32\n  attr TCA_FQ_ORPHAN_MASK 10 u3\
+    2\n  attr TCA_FQ_LOW_RATE_THRESHOLD 11 u32\n  attr TCA_FQ_CE_THRESHOLD 12 u32\n  attr TCA_FQ_T\
+    IMER_SLACK 13 u32\n  attr TCA_FQ_HORIZON 14 u32\n  attr TCA_FQ_HORIZON_DROP 15 u8\n  attr TCA_\
+    FQ_PRIOMAP 16 struct=tc_prio_qopt\n  attr TCA_FQ_WEIGHTS 17 s32 array\n\nset tc-fq-codel-attr\
+    s\n  attr TCA_FQ_CODEL_TARGET 1 u32\n  attr TCA_FQ_CODEL_LIMIT 2 u32\n  attr TCA_FQ_CODEL_INTE\
+    RVAL 3 u32\n  attr TCA_FQ_CODEL_ECN 4 u32\n  attr TCA_FQ_CODEL_FLOWS 5 u32\n  attr TCA_FQ_CODE\
+    L_QUANTUM 6 u32\n  attr TCA_FQ_CODEL_CE_THRESHOLD 7 u32\n  attr TCA_FQ_CODEL_DROP_BATCH_SIZE \
+    8 u32\n  attr TCA_FQ_CODEL_MEMORY_LIMIT 9 u32\n  attr TCA_FQ_CODEL_CE_THRESHOLD_SELECTOR 10 u\
+    8\n  attr TCA_FQ_CODEL_CE_THRESHOLD_MASK 11 u8\n\nset tc-fq-pie-attrs\n  attr TCA_FQ_PIE_LIMI\
+    T 1 u32\n  attr TCA_FQ_PIE_FLOWS 2 u32\n  attr TCA_FQ_PIE_TARGET 3 u32\n  attr TCA_FQ_PIE_TUPD\
+    ATE 4 u32\n  attr TCA_FQ_PIE_ALPHA 5 u32\n  attr TCA_FQ_PIE_BETA 6 u32\n  attr TCA_FQ_PIE_QUAN\
+    TUM 7 u32\n  attr TCA_FQ_PIE_MEMORY_LIMIT 8 u32\n  attr TCA_FQ_PIE_ECN_PROB 9 u32\n  attr TCA_\
+    FQ_PIE_ECN 10 u32\n  attr TCA_FQ_PIE_BYTEMODE 11 u32\n  attr TCA_FQ_PIE_DQ_RATE_ESTIMATOR 12 u\
+    32\n\nset tc-netem-attrs\n  attr TCA_NETEM_CORR 1 struct=tc_netem_corr\n  attr TCA_NETEM_DELAY\
+    _DIST 2 s16 array\n  attr TCA_NETEM_REORDER 3 struct=tc_netem_reorder\n  attr TCA_NETEM_CORRUP\
+    T 4 struct=tc_netem_corrupt\n  attr TCA_NETEM_LOSS 5 nest=tc-netem-loss-attrs\n  attr TCA_NETE\
+    M_RATE 6 struct=tc_netem_rate\n  attr TCA_NETEM_ECN 7 u32\n  attr TCA_NETEM_RATE64 8 u64\n  at\
+    tr TCA_NETEM_PAD 9 pad\n  attr TCA_NETEM_LATENCY64 10 s64\n  attr TCA_NETEM_JITTER64 11 s6\
+    4\n  attr TCA_NETEM_SLOT 12 struct=tc_netem_slot\n  attr TCA_NETEM_SLOT_DIST 13 s16 array\n  a\
+    ttr TCA_NETEM_PRNG_SEED 14 u64\n\nset tc-netem-loss-attrs\n  attr NETEM_LOSS_GI 1 struct=tc_ne\
+    tem_gimodel\n  attr NETEM_LOSS_GE 2 struct=tc_netem_gemodel\n\nset tc-pie-attrs\n  attr TCA_PI\
+    E_TARGET 1 u32\n  attr TCA_PIE_LIMIT 2 u32\n  attr TCA_PIE_TUPDATE 3 u32\n  attr TCA_PIE_ALPH\
+    A 4 u32\n  attr TCA_PIE_BETA 5 u32\n  attr TCA_PIE_ECN 6 u32\n  attr TCA_PIE_BYTEMODE 7 u3\
+    2\n  attr TCA_PIE_DQ_RATE_ESTIMATOR 8 u32\n\nset tc-police-attrs\n  attr TCA_POLICE_TBF 1 stru\
+    ct=tc_police\n  attr TCA_POLICE_RATE 2 u32 array\n  attr TCA_POLICE_PEAKRATE 3 u32 array\n  at\
+    tr TCA_POLICE_AVRATE 4 u32\n  attr TCA_POLICE_RESULT 5 u32\n  attr TCA_POLICE_TM 6 struct=tcf_\
+    t\n  attr TCA_POLICE_PAD 7 pad\n  attr TCA_POLICE_RATE64 8 u64\n  attr TCA_POLICE_PEAKRATE64 \
+    9 u64\n  attr TCA_POLICE_PKTRATE64 10 u64\n  attr TCA_POLICE_PKTBURST64 11 u64\n\nset tc-qfq-a\
+    ttrs\n  attr TCA_QFQ_WEIGHT 1 u32\n  attr TCA_QFQ_LMAX 2 u32\n\nset tc-red-attrs strict-from=\
+    4\n  attr TCA_RED_PARMS 1 struct=tc_red_qopt\n  attr TCA_RED_STAB 2 bytes\n  attr TCA_RED_MAX_\
+    P 3 u32\n  attr TCA_RED_FLAGS 4 bits\n  attr TCA_RED_EARLY_DROP_BLOCK 5 u32\n  attr TCA_RED_MA\
+    RK_BLOCK 6 u32\n\nset tc-route-attrs\n  attr TCA_ROUTE4_CLASSID 1 u32\n  attr TCA_ROUTE4_TO 2 \
+    u32\n  attr TCA_ROUTE4_FROM 3 u32\n  attr TCA_ROUTE4_IIF 4 u32\n  attr TCA_ROUTE4_POLICE 5 nes\
+    t=tc-police-attrs\n  attr TCA_ROUTE4_ACT 6 nest=tc-route-attrs.act\n\nset tc-route-attrs.ac\
+    t\n  each index nest=tc-act-attrs\n\nset tc-taprio-attrs\n  attr TCA_TAPRIO_ATTR_PRIOMAP 1 str\
+    uct=tc_mqprio_qopt\n  attr TCA_TAPRIO_ATTR_SCHED_ENTRY_LIST 2 nest=tc-taprio-sched-entry-lis\
     t\n  attr TCA_TAPRIO_ATTR_SCHED_BASE_TIME 3 s64\n  attr TCA_TAPRIO_ATTR_SCHED_SINGLE_ENTRY 4 n\
     est=tc-taprio-sched-entry\n  attr TCA_TAPRIO_ATTR_SCHED_CLOCKID 5 s32\n  attr TCA_TAPRIO_PAD \
     6 pad\n  attr TCA_TAPRIO_ATTR_ADMIN_SCHED 7 nest=tc-taprio-attrs\n  attr TCA_TAPRIO_ATTR_SCHED\
@@ -461,56 +462,56 @@ static TEXT: &[u8] = b"\
     tr TCA_U32_FLAGS 11 u32\n  attr TCA_U32_PAD 12 pad\n\nset tc-u32-attrs.act\n  each index nest=\
     tc-act-attrs\n\nset action-root\n  attr TCA_ROOT_TAB 1 nest=actions\n  attr TCA_ROOT_FLAGS 2 b\
     its\n  attr TCA_ROOT_COUNT 3 u32\n  attr TCA_ROOT_TIME_DELTA 4 u32\n  attr TCA_ROOT_EXT_WARN_M\
-    SG 5 text\n\nset actions\n  each action nest=tc-act-attrs\n\nset tunnel-key-options\n  attr TC\
-    A_TUNNEL_KEY_ENC_OPTS_GENEVE 1 nest=tunnel-key-geneve multi\n  attr TCA_TUNNEL_KEY_ENC_OPTS_VX\
-    LAN 2 nest=tunnel-key-vxlan\n  attr TCA_TUNNEL_KEY_ENC_OPTS_ERSPAN 3 nest=tunnel-key-erspa\
-    n\n\nset tunnel-key-geneve\n  attr TCA_TUNNEL_KEY_ENC_OPT_GENEVE_CLASS 1 be16\n  attr TCA_TUNN\
-    EL_KEY_ENC_OPT_GENEVE_TYPE 2 u8\n  attr TCA_TUNNEL_KEY_ENC_OPT_GENEVE_DATA 3 bytes length=0..1\
-    27\n\nset tunnel-key-vxlan\n  attr TCA_TUNNEL_KEY_ENC_OPT_VXLAN_GBP 1 u32\n\nset tunnel-key-er\
-    span\n  attr TCA_TUNNEL_KEY_ENC_OPT_ERSPAN_VER 1 u8\n  attr TCA_TUNNEL_KEY_ENC_OPT_ERSPAN_INDE\
-    X 2 be32\n  attr TCA_TUNNEL_KEY_ENC_OPT_ERSPAN_DIR 3 u8\n  attr TCA_TUNNEL_KEY_ENC_OPT_ERSPAN_\
-    HWID 4 u8\n\nset sfb\n  attr TCA_SFB_PARMS 1 struct=tc_sfb_qopt\n\nset mqprio\n  attr TCA_MQPR\
-    IO_MODE 1 u16\n  attr TCA_MQPRIO_SHAPER 2 u16\n  attr TCA_MQPRIO_MIN_RATE64 3 nest=mqprio-leas\
-    t-rates\n  attr TCA_MQPRIO_MAX_RATE64 4 nest=mqprio-largest-rates\n  attr TCA_MQPRIO_TC_ENTRY \
-    5 nest=mqprio-entry multi\n\nset mqprio-least-rates\n  attr TCA_MQPRIO_MIN_RATE64 3 u64 mult\
-    i\n\nset mqprio-largest-rates\n  attr TCA_MQPRIO_MAX_RATE64 4 u64 multi\n\nset mqprio-entr\
-    y\n  attr TCA_MQPRIO_TC_ENTRY_INDEX 1 u32\n  attr TCA_MQPRIO_TC_ENTRY_FP 2 u32\n\nset gate-ent\
-    ries\n  attr TCA_GATE_ONE_ENTRY 1 nest=gate-entry multi\n\nset gate-entry\n  attr TCA_GATE_ENT\
-    RY_INDEX 1 u32\n  attr TCA_GATE_ENTRY_GATE 2 flag\n  attr TCA_GATE_ENTRY_INTERVAL 3 u32\n  att\
-    r TCA_GATE_ENTRY_IPV 4 s32\n  attr TCA_GATE_ENTRY_MAX_OCTETS 5 s32\n\nset pedit-keys\n  attr T\
-    CA_PEDIT_KEY_EX 6 nest=pedit-key multi\n\nset pedit-key\n  attr TCA_PEDIT_KEY_EX_HTYPE 1 u16 e\
-    num=pedit-header\n  attr TCA_PEDIT_KEY_EX_CMD 2 u16 enum=pedit-command\n\nset ematches\n  eac\
-    h match bytes\n\nset mpls-options\n  attr TCA_FLOWER_KEY_MPLS_OPTS_LSE 1 nest=tc-flower-key-mp\
-    ls-opt-attrs multi\n\nchoice tc-options-msg\n  case basic nest=tc-basic-attrs\n  case bpf nest\
-    =tc-bpf-attrs\n  case bfifo struct=tc_fifo_qopt\n  case cake nest=tc-cake-attrs\n  case cbs ne\
-    st=tc-cbs-attrs\n  case cgroup nest=tc-cgroup-attrs\n  case choke nest=tc-choke-attrs\n  case \
-    clsact bytes\n  case codel nest=tc-codel-attrs\n  case drr nest=tc-drr-attrs\n  case etf nest=\
-    tc-etf-attrs\n  case ets nest=tc-ets-attrs\n  case flow nest=tc-flow-attrs\n  case flower nest\
-    =tc-flower-attrs\n  case fq nest=tc-fq-attrs\n  case fq_codel nest=tc-fq-codel-attrs\n  case f\
-    q_pie nest=tc-fq-pie-attrs\n  case fw nest=tc-fw-attrs\n  case gred nest=tc-gred-attrs\n  cas\
-    e hfsc struct=tc_hfsc_qopt\n  case hhf nest=tc-hhf-attrs\n  case htb nest=tc-htb-attrs\n  cas\
-    e ingress bytes\n  case matchall nest=tc-matchall-attrs\n  case mq bytes\n  case mqprio nest=m\
-    qprio after=tc_mqprio_qopt\n  case multiq struct=tc_multiq_qopt\n  case netem nest=tc-netem-at\
-    trs after=tc_netem_qopt\n  case pfifo struct=tc_fifo_qopt\n  case pfifo_fast struct=tc_prio_qo\
-    pt\n  case pfifo_head_drop struct=tc_fifo_qopt\n  case pie nest=tc-pie-attrs\n  case plug stru\
-    ct=tc_plug_qopt\n  case prio struct=tc_prio_qopt\n  case qfq nest=tc-qfq-attrs\n  case red nes\
-    t=tc-red-attrs\n  case route nest=tc-route-attrs\n  case sfb nest=sfb\n  case sfq struct=tc_sf\
-    q_qopt_v1\n  case taprio nest=tc-taprio-attrs\n  case tbf nest=tc-tbf-attrs\n  case u32 nest=t\
-    c-u32-attrs\n\nchoice tc-act-options-msg\n  case bpf nest=tc-act-bpf-attrs\n  case connmark ne\
-    st=tc-act-connmark-attrs\n  case csum nest=tc-act-csum-attrs\n  case ct nest=tc-act-ct-attr\
-    s\n  case ctinfo nest=tc-act-ctinfo-attrs\n  case gact nest=tc-act-gact-attrs\n  case gate nes\
-    t=tc-act-gate-attrs\n  case ife nest=tc-act-ife-attrs\n  case mirred nest=tc-act-mirred-attr\
-    s\n  case mpls nest=tc-act-mpls-attrs\n  case nat nest=tc-act-nat-attrs\n  case pedit nest=tc-\
-    act-pedit-attrs\n  case police nest=tc-act-police-attrs\n  case sample nest=tc-act-sample-attr\
-    s\n  case simple nest=tc-act-simple-attrs\n  case skbedit nest=tc-act-skbedit-attrs\n  case sk\
-    bmod nest=tc-act-skbmod-attrs\n  case tunnel_key nest=tc-act-tunnel-key-attrs\n  case vlan nes\
-    t=tc-act-vlan-attrs\n\nchoice tca-stats-app-msg\n  case cake nest=tc-cake-stats-attrs\n  case \
-    choke struct=tc_choke_xstats\n  case codel struct=tc_codel_xstats\n  case fq struct=tc_fq_qd_s\
-    tats\n  case fq_codel struct=tc_fq_codel_xstats\n  case fq_pie struct=tc_fq_pie_xstats\n  cas\
-    e hhf struct=tc_hhf_xstats\n  case pie struct=tc_pie_xstats\n  case red struct=tc_red_xstat\
-    s\n  case sfb struct=tc_sfb_xstats\n  case sfq struct=tc_sfq_xstats\n  case htb struct=tc_htb_\
-    xstats\n  case hfsc struct=tc_hfsc_stats\n  case drr struct=tc_drr_stats\n  case qfq struct=tc\
-    _qfq_stats\n";
+    SG 5 text\n\nset actions\n  each action nest=tc-act-attrs\n\nset tunnel-key-options strict-fro\
+    m=2\n  attr TCA_TUNNEL_KEY_ENC_OPTS_GENEVE 1 nest=tunnel-key-geneve multi\n  attr TCA_TUNNEL_K\
+    EY_ENC_OPTS_VXLAN 2 nest=tunnel-key-vxlan\n  attr TCA_TUNNEL_KEY_ENC_OPTS_ERSPAN 3 nest=tunnel\
+    -key-erspan\n\nset tunnel-key-geneve\n  attr TCA_TUNNEL_KEY_ENC_OPT_GENEVE_CLASS 1 be16\n  att\
+    r TCA_TUNNEL_KEY_ENC_OPT_GENEVE_TYPE 2 u8\n  attr TCA_TUNNEL_KEY_ENC_OPT_GENEVE_DATA 3 bytes l\
+    ength=0..127\n\nset tunnel-key-vxlan\n  attr TCA_TUNNEL_KEY_ENC_OPT_VXLAN_GBP 1 u32\n\nset tun\
+    nel-key-erspan\n  attr TCA_TUNNEL_KEY_ENC_OPT_ERSPAN_VER 1 u8\n  attr TCA_TUNNEL_KEY_ENC_OPT_E\
+    RSPAN_INDEX 2 be32\n  attr TCA_TUNNEL_KEY_ENC_OPT_ERSPAN_DIR 3 u8\n  attr TCA_TUNNEL_KEY_ENC_O\
+    PT_ERSPAN_HWID 4 u8\n\nset sfb\n  attr TCA_SFB_PARMS 1 struct=tc_sfb_qopt\n\nset mqprio\n  att\
+    r TCA_MQPRIO_MODE 1 u16\n  attr TCA_MQPRIO_SHAPER 2 u16\n  attr TCA_MQPRIO_MIN_RATE64 3 nest=m\
+    qprio-least-rates\n  attr TCA_MQPRIO_MAX_RATE64 4 nest=mqprio-largest-rates\n  attr TCA_MQPRIO\
+    _TC_ENTRY 5 nest=mqprio-entry multi\n\nset mqprio-least-rates\n  attr TCA_MQPRIO_MIN_RATE64 3 \
+    u64 multi\n\nset mqprio-largest-rates\n  attr TCA_MQPRIO_MAX_RATE64 4 u64 multi\n\nset mqprio-\
+    entry\n  attr TCA_MQPRIO_TC_ENTRY_INDEX 1 u32\n  attr TCA_MQPRIO_TC_ENTRY_FP 2 u32\n\nset gate\
+    -entries\n  attr TCA_GATE_ONE_ENTRY 1 nest=gate-entry multi\n\nset gate-entry\n  attr TCA_GATE\
+    _ENTRY_INDEX 1 u32\n  attr TCA_GATE_ENTRY_GATE 2 flag\n  attr TCA_GATE_ENTRY_INTERVAL 3 u3\
+    2\n  attr TCA_GATE_ENTRY_IPV 4 s32\n  attr TCA_GATE_ENTRY_MAX_OCTETS 5 s32\n\nset pedit-key\
+    s\n  attr TCA_PEDIT_KEY_EX 6 nest=pedit-key multi\n\nset pedit-key\n  attr TCA_PEDIT_KEY_EX_HT\
+    YPE 1 u16 enum=pedit-header\n  attr TCA_PEDIT_KEY_EX_CMD 2 u16 enum=pedit-command\n\nset ematc\
+    hes\n  each match bytes\n\nset mpls-options\n  attr TCA_FLOWER_KEY_MPLS_OPTS_LSE 1 nest=tc-flo\
+    wer-key-mpls-opt-attrs multi\n\nchoice tc-options-msg\n  case basic nest=tc-basic-attrs\n  cas\
+    e bpf nest=tc-bpf-attrs\n  case bfifo struct=tc_fifo_qopt\n  case cake nest=tc-cake-attrs\n  c\
+    ase cbs nest=tc-cbs-attrs\n  case cgroup nest=tc-cgroup-attrs\n  case choke nest=tc-choke-attr\
+    s\n  case clsact bytes\n  case codel nest=tc-codel-attrs\n  case drr nest=tc-drr-attrs\n  cas\
+    e etf nest=tc-etf-attrs\n  case ets nest=tc-ets-attrs\n  case flow nest=tc-flow-attrs\n  case \
+    flower nest=tc-flower-attrs\n  case fq nest=tc-fq-attrs\n  case fq_codel nest=tc-fq-codel-attr\
+    s\n  case fq_pie nest=tc-fq-pie-attrs\n  case fw nest=tc-fw-attrs\n  case gred nest=tc-gred-at\
+    trs\n  case hfsc struct=tc_hfsc_qopt\n  case hhf nest=tc-hhf-attrs\n  case htb nest=tc-htb-att\
+    rs\n  case ingress bytes\n  case matchall nest=tc-matchall-attrs\n  case mq bytes\n  case mqpr\
+    io nest=mqprio after=tc_mqprio_qopt\n  case multiq struct=tc_multiq_qopt\n  case netem nest=tc\
+    -netem-attrs after=tc_netem_qopt\n  case pfifo struct=tc_fifo_qopt\n  case pfifo_fast struct=t\
+    c_prio_qopt\n  case pfifo_head_drop struct=tc_fifo_qopt\n  case pie nest=tc-pie-attrs\n  case \
+    plug struct=tc_plug_qopt\n  case prio struct=tc_prio_qopt\n  case qfq nest=tc-qfq-attrs\n  cas\
+    e red nest=tc-red-attrs\n  case route nest=tc-route-attrs\n  case sfb nest=sfb\n  case sfq str\
+    uct=tc_sfq_qopt_v1\n  case taprio nest=tc-taprio-attrs\n  case tbf nest=tc-tbf-attrs\n  case u\
+    32 nest=tc-u32-attrs\n\nchoice tc-act-options-msg\n  case bpf nest=tc-act-bpf-attrs\n  case co\
+    nnmark nest=tc-act-connmark-attrs\n  case csum nest=tc-act-csum-attrs\n  case ct nest=tc-act-c\
+    t-attrs\n  case ctinfo nest=tc-act-ctinfo-attrs\n  case gact nest=tc-act-gact-attrs\n  case ga\
+    te nest=tc-act-gate-attrs\n  case ife nest=tc-act-ife-attrs\n  case mirred nest=tc-act-mirred-\
+    attrs\n  case mpls nest=tc-act-mpls-attrs\n  case nat nest=tc-act-nat-attrs\n  case pedit nest\
+    =tc-act-pedit-attrs\n  case police nest=tc-act-police-attrs\n  case sample nest=tc-act-sample-\
+    attrs\n  case simple nest=tc-act-simple-attrs\n  case skbedit nest=tc-act-skbedit-attrs\n  cas\
+    e skbmod nest=tc-act-skbmod-attrs\n  case tunnel_key nest=tc-act-tunnel-key-attrs\n  case vla\
+    n nest=tc-act-vlan-attrs\n\nchoice tca-stats-app-msg\n  case cake nest=tc-cake-stats-attrs\n  \
+    case choke struct=tc_choke_xstats\n  case codel struct=tc_codel_xstats\n  case fq struct=tc_fq\
+    _qd_stats\n  case fq_codel struct=tc_fq_codel_xstats\n  case fq_pie struct=tc_fq_pie_xstat\
+    s\n  case hhf struct=tc_hhf_xstats\n  case pie struct=tc_pie_xstats\n  case red struct=tc_red_\
+    xstats\n  case sfb struct=tc_sfb_xstats\n  case sfq struct=tc_sfq_xstats\n  case htb struct=tc\
+    _htb_xstats\n  case hfsc struct=tc_hfsc_stats\n  case drr struct=tc_drr_stats\n  case qfq stru\
+    ct=tc_qfq_stats\n";
 
 /// The text of `tables/tc.table`.
 pub(crate) fn text() -> &'static [u8]

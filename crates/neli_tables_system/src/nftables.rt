@@ -188,47 +188,47 @@ static TEXT: &[u8] = b"\
     tr NFTA_CT_HELPER_NAME 1 text\n  attr NFTA_CT_HELPER_L3PROTO 2 be16\n  attr NFTA_CT_HELPER_L4P\
     ROTO 3 u8\n\nset tunnel-address\n  attr NFTA_TUNNEL_KEY_IP_SRC 1 ipv4\n  attr NFTA_TUNNEL_KEY_\
     IP_DST 2 ipv4\n\nset tunnel-address6\n  attr NFTA_TUNNEL_KEY_IP6_SRC 1 ipv6\n  attr NFTA_TUNNE\
-    L_KEY_IP6_DST 2 ipv6\n  attr NFTA_TUNNEL_KEY_IP6_FLOWLABEL 3 be32\n\nset tunnel-options\n  att\
-    r NFTA_TUNNEL_KEY_OPTS_VXLAN 1 nest=tunnel-vxlan\n  attr NFTA_TUNNEL_KEY_OPTS_ERSPAN 2 nest=tu\
-    nnel-erspan\n  attr NFTA_TUNNEL_KEY_OPTS_GENEVE 3 nest=tunnel-geneve multi\n\nset tunnel-vxla\
-    n\n  attr NFTA_TUNNEL_KEY_VXLAN_GBP 1 be32\n\nset tunnel-erspan\n  attr NFTA_TUNNEL_KEY_ERSPAN\
-    _VERSION 1 be32\n  attr NFTA_TUNNEL_KEY_ERSPAN_V1_INDEX 2 be32\n  attr NFTA_TUNNEL_KEY_ERSPAN_\
-    V2_HWID 3 u8\n  attr NFTA_TUNNEL_KEY_ERSPAN_V2_DIR 4 u8\n\nset tunnel-geneve\n  attr NFTA_TUNN\
-    EL_KEY_GENEVE_CLASS 1 be16\n  attr NFTA_TUNNEL_KEY_GENEVE_TYPE 2 u8\n  attr NFTA_TUNNEL_KEY_GE\
-    NEVE_DATA 3 bytes length=0..127\n\nset tunnel-key\n  attr NFTA_TUNNEL_KEY_ID 1 be32\n  attr NF\
-    TA_TUNNEL_KEY_IP 2 nest=tunnel-address\n  attr NFTA_TUNNEL_KEY_IP6 3 nest=tunnel-address6\n  a\
-    ttr NFTA_TUNNEL_KEY_FLAGS 4 be32\n  attr NFTA_TUNNEL_KEY_TOS 5 u8\n  attr NFTA_TUNNEL_KEY_TTL \
-    6 u8\n  attr NFTA_TUNNEL_KEY_SPORT 7 be16\n  attr NFTA_TUNNEL_KEY_DPORT 8 be16\n  attr NFTA_TU\
-    NNEL_KEY_OPTS 9 nest=tunnel-options\n\nset ct-timeout\n  attr NFTA_CT_TIMEOUT_L3PROTO 1 be1\
-    6\n  attr NFTA_CT_TIMEOUT_L4PROTO 2 u8\n  attr NFTA_CT_TIMEOUT_DATA 3 nest=ct-timeout-state\
-    s\n\nset secmark\n  attr NFTA_SECMARK_CTX 1 text length=0..256\n\nset ct-expect\n  attr NFTA_C\
-    T_EXPECT_L3PROTO 1 be16\n  attr NFTA_CT_EXPECT_L4PROTO 2 u8\n  attr NFTA_CT_EXPECT_DPORT 3 be1\
-    6\n  attr NFTA_CT_EXPECT_TIMEOUT 4 u32\n  attr NFTA_CT_EXPECT_SIZE 5 u8\n\nset expr-inner\n  a\
-    ttr NFTA_INNER_NUM 1 be32\n  attr NFTA_INNER_TYPE 2 be32\n  attr NFTA_INNER_FLAGS 3 be32\n  at\
-    tr NFTA_INNER_HDRSIZE 4 be32\n  attr NFTA_INNER_EXPR 5 nest=expr-attrs\n\nset expr-tunnel\n  a\
-    ttr NFTA_TUNNEL_KEY 1 be32\n  attr NFTA_TUNNEL_DREG 2 be32\n  attr NFTA_TUNNEL_MODE 3 be32\n\n\
-    set ct-timeout-states\n  each seconds be32\n\nset compat\n  attr NFTA_COMPAT_NAME 1 text lengt\
-    h=1..31\n  attr NFTA_COMPAT_REV 2 be32\n  attr NFTA_COMPAT_TYPE 3 be32\n\nchoice expr-ops\n  c\
-    ase bitwise nest=expr-bitwise-attrs\n  case cmp nest=expr-cmp-attrs\n  case counter nest=expr-\
-    counter-attrs\n  case ct nest=expr-ct-attrs\n  case fib nest=expr-fib-attrs\n  case flow_offlo\
-    ad nest=expr-flow-offload-attrs\n  case immediate nest=expr-immediate-attrs\n  case lookup nes\
-    t=expr-lookup-attrs\n  case meta nest=expr-meta-attrs\n  case nat nest=expr-nat-attrs\n  case \
-    objref nest=expr-objref-attrs\n  case payload nest=expr-payload-attrs\n  case quota nest=quota\
-    -attrs\n  case reject nest=expr-reject-attrs\n  case target nest=expr-target-attrs\n  case tpr\
-    oxy nest=expr-tproxy-attrs\n  case log nest=expr-log-attrs\n  case limit nest=expr-limit-attr\
-    s\n  case masq nest=expr-masq-attrs\n  case redir nest=expr-redir-attrs\n  case byteorder nest\
-    =expr-byteorder-attrs\n  case range nest=expr-range-attrs\n  case hash nest=expr-hash-attr\
-    s\n  case numgen nest=expr-numgen-attrs\n  case dynset nest=expr-dynset-attrs\n  case exthdr n\
-    est=expr-exthdr-attrs\n  case rt nest=expr-rt-attrs\n  case socket nest=expr-socket-attrs\n  c\
-    ase osf nest=expr-osf-attrs\n  case synproxy nest=expr-synproxy-attrs\n  case queue nest=expr-\
-    queue-attrs\n  case dup nest=expr-dup-attrs\n  case fwd nest=expr-fwd-attrs\n  case xfrm nest=\
-    expr-xfrm-attrs\n  case connlimit nest=expr-connlimit-attrs\n  case last nest=expr-last-attr\
-    s\n  case match nest=expr-match-attrs\n  case inner nest=expr-inner\n  case tunnel nest=expr-t\
-    unnel\n\nchoice obj-data\n  case counter 1 nest=counter-attrs\n  case quota 2 nest=quota-attr\
-    s\n  case ct-helper 3 nest=ct-helper\n  case limit 4 nest=expr-limit-attrs\n  case connlimit \
-    5 nest=expr-connlimit-attrs\n  case tunnel 6 nest=tunnel-key\n  case ct-timeout 7 nest=ct-time\
-    out\n  case secmark 8 nest=secmark\n  case ct-expect 9 nest=ct-expect\n  case synproxy 10 nest\
-    =expr-synproxy-attrs\n";
+    L_KEY_IP6_DST 2 ipv6\n  attr NFTA_TUNNEL_KEY_IP6_FLOWLABEL 3 be32\n\nset tunnel-options strict\
+    -from=3\n  attr NFTA_TUNNEL_KEY_OPTS_VXLAN 1 nest=tunnel-vxlan\n  attr NFTA_TUNNEL_KEY_OPTS_ER\
+    SPAN 2 nest=tunnel-erspan\n  attr NFTA_TUNNEL_KEY_OPTS_GENEVE 3 nest=tunnel-geneve multi\n\nse\
+    t tunnel-vxlan\n  attr NFTA_TUNNEL_KEY_VXLAN_GBP 1 be32\n\nset tunnel-erspan\n  attr NFTA_TUNN\
+    EL_KEY_ERSPAN_VERSION 1 be32\n  attr NFTA_TUNNEL_KEY_ERSPAN_V1_INDEX 2 be32\n  attr NFTA_TUNNE\
+    L_KEY_ERSPAN_V2_HWID 3 u8\n  attr NFTA_TUNNEL_KEY_ERSPAN_V2_DIR 4 u8\n\nset tunnel-geneve\n  a\
+    ttr NFTA_TUNNEL_KEY_GENEVE_CLASS 1 be16\n  attr NFTA_TUNNEL_KEY_GENEVE_TYPE 2 u8\n  attr NFTA_\
+    TUNNEL_KEY_GENEVE_DATA 3 bytes length=0..127\n\nset tunnel-key\n  attr NFTA_TUNNEL_KEY_ID 1 be\
+    32\n  attr NFTA_TUNNEL_KEY_IP 2 nest=tunnel-address\n  attr NFTA_TUNNEL_KEY_IP6 3 nest=tunnel-\
+    address6\n  attr NFTA_TUNNEL_KEY_FLAGS 4 be32\n  attr NFTA_TUNNEL_KEY_TOS 5 u8\n  attr NFTA_TU\
+    NNEL_KEY_TTL 6 u8\n  attr NFTA_TUNNEL_KEY_SPORT 7 be16\n  attr NFTA_TUNNEL_KEY_DPORT 8 be1\
+    6\n  attr NFTA_TUNNEL_KEY_OPTS 9 nest=tunnel-options\n\nset ct-timeout\n  attr NFTA_CT_TIMEOUT\
+    _L3PROTO 1 be16\n  attr NFTA_CT_TIMEOUT_L4PROTO 2 u8\n  attr NFTA_CT_TIMEOUT_DATA 3 nest=ct-ti\
+    meout-states\n\nset secmark\n  attr NFTA_SECMARK_CTX 1 text length=0..256\n\nset ct-expect\n  \
+    attr NFTA_CT_EXPECT_L3PROTO 1 be16\n  attr NFTA_CT_EXPECT_L4PROTO 2 u8\n  attr NFTA_CT_EXPECT_\
+    DPORT 3 be16\n  attr NFTA_CT_EXPECT_TIMEOUT 4 u32\n  attr NFTA_CT_EXPECT_SIZE 5 u8\n\nset expr\
+    -inner\n  attr NFTA_INNER_NUM 1 be32\n  attr NFTA_INNER_TYPE 2 be32\n  attr NFTA_INNER_FLAGS \
+    3 be32\n  attr NFTA_INNER_HDRSIZE 4 be32\n  attr NFTA_INNER_EXPR 5 nest=expr-attrs\n\nset expr\
+    -tunnel\n  attr NFTA_TUNNEL_KEY 1 be32\n  attr NFTA_TUNNEL_DREG 2 be32\n  attr NFTA_TUNNEL_MOD\
+    E 3 be32\n\nset ct-timeout-states\n  each seconds be32\n\nset compat\n  attr NFTA_COMPAT_NAME \
+    1 text length=1..31\n  attr NFTA_COMPAT_REV 2 be32\n  attr NFTA_COMPAT_TYPE 3 be32\n\nchoice e\
+    xpr-ops\n  case bitwise nest=expr-bitwise-attrs\n  case cmp nest=expr-cmp-attrs\n  case counte\
+    r nest=expr-counter-attrs\n  case ct nest=expr-ct-attrs\n  case fib nest=expr-fib-attrs\n  cas\
+    e flow_offload nest=expr-flow-offload-attrs\n  case immediate nest=expr-immediate-attrs\n  cas\
+    e lookup nest=expr-lookup-attrs\n  case meta nest=expr-meta-attrs\n  case nat nest=expr-nat-at\
+    trs\n  case objref nest=expr-objref-attrs\n  case payload nest=expr-payload-attrs\n  case quot\
+    a nest=quota-attrs\n  case reject nest=expr-reject-attrs\n  case target nest=expr-target-attr\
+    s\n  case tproxy nest=expr-tproxy-attrs\n  case log nest=expr-log-attrs\n  case limit nest=exp\
+    r-limit-attrs\n  case masq nest=expr-masq-attrs\n  case redir nest=expr-redir-attrs\n  case by\
+    teorder nest=expr-byteorder-attrs\n  case range nest=expr-range-attrs\n  case hash nest=expr-h\
+    ash-attrs\n  case numgen nest=expr-numgen-attrs\n  case dynset nest=expr-dynset-attrs\n  case \
+    exthdr nest=expr-exthdr-attrs\n  case rt nest=expr-rt-attrs\n  case socket nest=expr-socket-at\
+    trs\n  case osf nest=expr-osf-attrs\n  case synproxy nest=expr-synproxy-attrs\n  case queue ne\
+    st=expr-queue-attrs\n  case dup nest=expr-dup-attrs\n  case fwd nest=expr-fwd-attrs\n  case xf\
+    rm nest=expr-xfrm-attrs\n  case connlimit nest=expr-connlimit-attrs\n  case last nest=expr-las\
+    t-attrs\n  case match nest=expr-match-attrs\n  case inner nest=expr-inner\n  case tunnel nest=\
+    expr-tunnel\n\nchoice obj-data\n  case counter 1 nest=counter-attrs\n  case quota 2 nest=quota\
+    -attrs\n  case ct-helper 3 nest=ct-helper\n  case limit 4 nest=expr-limit-attrs\n  case connli\
+    mit 5 nest=expr-connlimit-attrs\n  case tunnel 6 nest=tunnel-key\n  case ct-timeout 7 nest=ct-\
+    timeout\n  case secmark 8 nest=secmark\n  case ct-expect 9 nest=ct-expect\n  case synproxy 10 \
+    nest=expr-synproxy-attrs\n";
 
 /// The text of `tables/nftables.table`.
 pub(crate) fn text() -> &'static [u8]

@@ -168,26 +168,26 @@ static TEXT: &[u8] = b"\
     xfrmu_spdinfo 24\n  field incnt 0..4 u32\n  field outcnt 4..8 u32\n  field fwdcnt 8..12 u3\
     2\n  field inscnt 12..16 u32\n  field outscnt 16..20 u32\n  field fwdscnt 20..24 u32\n\nstruc\
     t xfrmu_spdhinfo 8\n  field spdhcnt 0..4 u32\n  field spdhmcnt 4..8 u32\n\nstruct xfrmu_spdhth\
-    resh 2\n  field lbits 0..1 u8\n  field rbits 1..2 u8\n\nset xfrm\n  attr XFRMA_ALG_AUTH 1 stru\
-    ct=xfrm_algo\n  attr XFRMA_ALG_CRYPT 2 struct=xfrm_algo\n  attr XFRMA_ALG_COMP 3 struct=xfrm_a\
-    lgo\n  attr XFRMA_ENCAP 4 struct=xfrm_encap_tmpl\n  attr XFRMA_TMPL 5 struct=xfrm_user_tmpl ar\
-    ray\n  attr XFRMA_SA 6 struct=xfrm_usersa_info\n  attr XFRMA_POLICY 7 struct=xfrm_userpolicy_i\
-    nfo\n  attr XFRMA_SEC_CTX 8 struct=xfrm_user_sec_ctx\n  attr XFRMA_LTIME_VAL 9 struct=xfrm_lif\
-    etime_cur\n  attr XFRMA_REPLAY_VAL 10 struct=xfrm_replay_state\n  attr XFRMA_REPLAY_THRESH 11 \
-    u32\n  attr XFRMA_ETIMER_THRESH 12 u32\n  attr XFRMA_SRCADDR 13 bytes length=16\n  attr XFRMA_\
-    COADDR 14 bytes length=16\n  attr XFRMA_LASTUSED 15 u64\n  attr XFRMA_POLICY_TYPE 16 struct=xf\
-    rm_userpolicy_type\n  attr XFRMA_MIGRATE 17 struct=xfrm_user_migrate array\n  attr XFRMA_ALG_A\
-    EAD 18 struct=xfrm_algo_aead\n  attr XFRMA_KMADDRESS 19 struct=xfrm_user_kmaddress\n  attr XFR\
-    MA_ALG_AUTH_TRUNC 20 struct=xfrm_algo_auth\n  attr XFRMA_MARK 21 struct=xfrm_mark\n  attr XFRM\
-    A_TFCPAD 22 u32\n  attr XFRMA_REPLAY_ESN_VAL 23 struct=xfrm_replay_state_esn\n  attr XFRMA_SA_\
-    EXTRA_FLAGS 24 u32\n  attr XFRMA_PROTO 25 u8\n  attr XFRMA_ADDRESS_FILTER 26 struct=xfrm_addre\
-    ss_filter\n  attr XFRMA_PAD 27 pad\n  attr XFRMA_OFFLOAD_DEV 28 struct=xfrm_user_offload\n  at\
-    tr XFRMA_SET_MARK 29 u32\n  attr XFRMA_SET_MARK_MASK 30 u32\n  attr XFRMA_IF_ID 31 u32\n  att\
-    r XFRMA_MTIMER_THRESH 32 u32\n  attr XFRMA_SA_DIR 33 u8 enum=direction\n  attr XFRMA_NAT_KEEPA\
-    LIVE_INTERVAL 34 u32\n  attr XFRMA_SA_PCPU 35 u32\n\nset sad\n  attr XFRMA_SAD_CNT 1 u32\n  at\
-    tr XFRMA_SAD_HINFO 2 struct=xfrmu_sadhinfo\n\nset spd\n  attr XFRMA_SPD_INFO 1 struct=xfrmu_sp\
-    dinfo\n  attr XFRMA_SPD_HINFO 2 struct=xfrmu_spdhinfo\n  attr XFRMA_SPD_IPV4_HTHRESH 3 struct=\
-    xfrmu_spdhthresh\n  attr XFRMA_SPD_IPV6_HTHRESH 4 struct=xfrmu_spdhthresh\n";
+    resh 2\n  field lbits 0..1 u8\n  field rbits 1..2 u8\n\nset xfrm strict-from=33\n  attr XFRMA_\
+    ALG_AUTH 1 struct=xfrm_algo\n  attr XFRMA_ALG_CRYPT 2 struct=xfrm_algo\n  attr XFRMA_ALG_COMP \
+    3 struct=xfrm_algo\n  attr XFRMA_ENCAP 4 struct=xfrm_encap_tmpl\n  attr XFRMA_TMPL 5 struct=xf\
+    rm_user_tmpl array\n  attr XFRMA_SA 6 struct=xfrm_usersa_info\n  attr XFRMA_POLICY 7 struct=xf\
+    rm_userpolicy_info\n  attr XFRMA_SEC_CTX 8 struct=xfrm_user_sec_ctx\n  attr XFRMA_LTIME_VAL 9 \
+    struct=xfrm_lifetime_cur\n  attr XFRMA_REPLAY_VAL 10 struct=xfrm_replay_state\n  attr XFRMA_RE\
+    PLAY_THRESH 11 u32\n  attr XFRMA_ETIMER_THRESH 12 u32\n  attr XFRMA_SRCADDR 13 bytes length=1\
+    6\n  attr XFRMA_COADDR 14 bytes length=16\n  attr XFRMA_LASTUSED 15 u64\n  attr XFRMA_POLICY_T\
+    YPE 16 struct=xfrm_userpolicy_type\n  attr XFRMA_MIGRATE 17 struct=xfrm_user_migrate array\n  \
+    attr XFRMA_ALG_AEAD 18 struct=xfrm_algo_aead\n  attr XFRMA_KMADDRESS 19 struct=xfrm_user_kmadd\
+    ress\n  attr XFRMA_ALG_AUTH_TRUNC 20 struct=xfrm_algo_auth\n  attr XFRMA_MARK 21 struct=xfrm_m\
+    ark\n  attr XFRMA_TFCPAD 22 u32\n  attr XFRMA_REPLAY_ESN_VAL 23 struct=xfrm_replay_state_es\
+    n\n  attr XFRMA_SA_EXTRA_FLAGS 24 u32\n  attr XFRMA_PROTO 25 u8\n  attr XFRMA_ADDRESS_FILTER 2\
+    6 struct=xfrm_address_filter\n  attr XFRMA_PAD 27 pad\n  attr XFRMA_OFFLOAD_DEV 28 struct=xfrm\
+    _user_offload\n  attr XFRMA_SET_MARK 29 u32\n  attr XFRMA_SET_MARK_MASK 30 u32\n  attr XFRMA_I\
+    F_ID 31 u32\n  attr XFRMA_MTIMER_THRESH 32 u32\n  attr XFRMA_SA_DIR 33 u8 enum=direction\n  at\
+    tr XFRMA_NAT_KEEPALIVE_INTERVAL 34 u32\n  attr XFRMA_SA_PCPU 35 u32\n\nset sad\n  attr XFRMA_S\
+    AD_CNT 1 u32\n  attr XFRMA_SAD_HINFO 2 struct=xfrmu_sadhinfo\n\nset spd\n  attr XFRMA_SPD_INF\
+    O 1 struct=xfrmu_spdinfo\n  attr XFRMA_SPD_HINFO 2 struct=xfrmu_spdhinfo\n  attr XFRMA_SPD_IPV\
+    4_HTHRESH 3 struct=xfrmu_spdhthresh\n  attr XFRMA_SPD_IPV6_HTHRESH 4 struct=xfrmu_spdhthresh\n";
 
 /// The text of `tables/xfrm.table`.
 pub(crate) fn text() -> &'static [u8]

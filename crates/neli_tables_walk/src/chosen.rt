@@ -117,8 +117,9 @@ impl<'w, 't> Context<'w, 't> {
         }
     }
 
-    /// The place of the case that these bytes pick, by the kind of the attribute that has them.
-    fn picked(&self, choice: usize, by: usize, bytes: &[u8]) -> Option<usize>
+    /// The place of the case of the choice at a place that these bytes pick, by the kind that the line at another place,
+    /// that of the attribute that has them, says.
+    pub fn picked(&self, choice: usize, by: usize, bytes: &[u8]) -> Option<usize>
         ensures { result
             ≡ picked_as self.now.table.now choice (kind_at self.now.table.now by) bytes.now }
     {

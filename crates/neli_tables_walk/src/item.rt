@@ -1,6 +1,6 @@
 //! What a walk gives.
 
-ghost use Rattle.std.specs.Prelude.{◌≡◌, []};
+ghost use Rattle.std.specs.Prelude.{◌≡◌, ◌<◌, ◌≤◌, [], ◌∷◌, ◌++◌, length};
 ghost use Rattle.neli_tables_walk.specs.Visited.{parts_of};
 
 use crate::Shape;
@@ -31,6 +31,29 @@ impl Path {
     {
         self.steps.as_slice()
     }
+
+    /// The path to an attribute or a hop in what this path leads to. It has room: this has fewer steps than lists can
+    /// be open.
+    pub fn then(&self, step: Step) -> Path
+        requires { length self.now.steps.items < MAX_DEPTH }
+        ensures { result.steps.items ≡ self.now.steps.items ++ step ∷ [] }
+    {
+        let mut path = path_of(self.steps());
+        path.steps.push(step);
+        path
+    }
+}
+
+/// The path of these steps.
+fn path_of(all: &[Step]) -> Path
+    requires { length all.now ≤ MAX_DEPTH }
+    ensures { result.steps.items ≡ all.now }
+{
+    let mut steps = ArrayVec::new();
+    for step in all {
+        steps.push(*step);
+    }
+    Path { steps }
 }
 
 impl Default for Path {

@@ -68,7 +68,7 @@ impl From<Refusal> for SchemaError {
     }
 }
 
-/// The first attribute of a message that is not as its row says, and what is wrong with it.
+/// The first attribute of a message that the kernel's parser would refuse, and what is wrong with it.
 #[derive(Clone, Debug, PartialEq, Eq)]
 pub struct Violation(String);
 

@@ -33,7 +33,7 @@ const REFUSED: [Row; 5] = [
         b"\x20\0\0\0\x15\0\x05\0\x40\x04\0\0\0\0\0\0\x02\x01\0\0\x0c\0\x01\0\x08\0\x01\0\x01\0\0\0",
         20,
         "ETHTOOL_A_LINKINFO_HEADER",
-        "",
+        "ETHTOOL_A_LINKINFO_HEADER: NLA_F_NESTED is missing",
     ),
     (
         "0929: a family's name of 32 bytes (EINVAL)",
