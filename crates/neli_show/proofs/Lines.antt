@@ -64,6 +64,7 @@ refusal-plain (refusal.PacketSize size) =
     around-plain size (codes "a packet that states ") (codes " bytes, more than there are") refl refl
 refusal-plain refusal.NotNetlink = refl
 refusal-plain refusal.Gap = refl
+refusal-plain refusal.LeftOut = refl
 refusal-plain refusal.NotHex = refl
 
 -- its members, closed
