@@ -41,6 +41,6 @@ pub mod laws {
     };
     pub use neli_session_laws::laws::{
         datagrams_bring_answers, no_dump_is_refused, requests_are_answered,
-        simulated_answers_are_whole, simulated_requests_are_answered,
+        silent_requests_are_complete, simulated_answers_are_whole, simulated_requests_are_answered,
     };
 }

@@ -28,13 +28,17 @@ use Rattle.neli_session_laws.specs.Served.{Comes, ComesOnceOut, IsFine, brought,
 pub no-truth : {A : Type 0} → false ≡ true → A
 no-truth h = absurd cc
 
+pub All-as : {P Q : Lent ℕ → Type 0} → ((m : Lent ℕ) → P m → Q m) → (ms : List (Lent ℕ)) → All P ms → All Q ms
+All-as {P} {Q} by [] all = All-nil Q
+All-as {P} {Q} by (m ∷ ms) all = All-cons Q m ms (by m (All-head P m ms all)) (All-as by ms (All-tail P m ms all))
+
 first-same : (y z : Lent ℕ) (ys zs : List (Lent ℕ)) → y ∷ ys ≡ z ∷ zs → z ≡ y
 first-same y z ys zs is = cc
 
 -- ---- whole answers, from their front on
 
 module _ (a : Answering) where
-  abbrev IsBefore : Lent ℕ → Type 0
+  abbrev pub IsBefore : Lent ℕ → Type 0
   IsBefore m = ends a m ≡ false
 
   -- where more is to come, none so far ends it
@@ -77,21 +81,21 @@ module _ (a : Answering) where
 
   -- ---- messages up to one that ends it, and what follows if none does
 
-  abbrev until : List (Lent ℕ) → List Item → List Item
+  abbrev pub until : List (Lent ℕ) → List Item → List Item
   until [] xs = xs
   until (m ∷ ms) xs = Ok m ∷ (if ends a m then [] else until ms xs)
 
-  abbrev stage_until : List (Lent ℕ) → Stage → Stage
+  abbrev pub stage_until : List (Lent ℕ) → Stage → Stage
   stage_until [] s = s
   stage_until (m ∷ ms) s = if ends a m then stage.Ended else stage_until ms s
 
-  until-before : (ms : List (Lent ℕ)) (xs : List Item) → All IsBefore ms → until ms xs ≡ as_items ms ++ xs
+  pub until-before : (ms : List (Lent ℕ)) (xs : List Item) → All IsBefore ms → until ms xs ≡ as_items ms ++ xs
   until-before [] xs before = refl
   until-before (m ∷ ms) xs before =
       ap (λ (b : Bool). Ok m ∷ (if b then [] else until ms xs)) (All-head IsBefore m ms before)
       ∙ ap (λ (ys : List Item). Ok m ∷ ys) (until-before ms xs (All-tail IsBefore m ms before))
 
-  stage-before : (ms : List (Lent ℕ)) (s : Stage) → All IsBefore ms → stage_until ms s ≡ s
+  pub stage-before : (ms : List (Lent ℕ)) (s : Stage) → All IsBefore ms → stage_until ms s ≡ s
   stage-before [] s before = refl
   stage-before (m ∷ ms) s before =
       ap (λ (b : Bool). if b then stage.Ended else stage_until ms s) (All-head IsBefore m ms before)
@@ -121,7 +125,7 @@ module _ (a : Answering) where
 
 -- ---- what comes of one datagram
 
-abbrev stage_of : Bool → Stage
+abbrev pub stage_of : Bool → Stage
 stage_of true = stage.Awaited
 stage_of false = stage.Leaving
 
@@ -131,10 +135,10 @@ IsAt [] s = s ≡ stage.Ended
 IsAt (d ∷ due) s = is_over s ≡ false
 
 module _ (a : Answering) (e : Bool) (port group q : ℕ) (gs : List Happening) where
-  abbrev came_first : List (Lent ℕ) → List Happening
+  abbrev pub came_first : List (Lent ℕ) → List Happening
   came_first ns = came_for port group q ns ++ gs
 
-  came-since : (was_sent mine : Bool) → ((group == 0) || e) ≡ mine → (ns : List (Lent ℕ))
+  pub came-since : (was_sent mine : Bool) → ((group == 0) || e) ≡ mine → (ns : List (Lent ℕ))
       → answer_since was_sent a e (came_first ns)
       ≡ until a (if mine then own_of port q ns else []) (answer_since was_sent a e gs)
   came-since was_sent true is [] = refl
@@ -173,7 +177,7 @@ module _ (a : Answering) (e : Bool) (port group q : ℕ) (gs : List Happening) w
       go true more = more
       go false more = more
 
-  stage-came : (s : Stage) → is_awaited s ≡ true → (mine : Bool) → ((group == 0) || e) ≡ mine → (ns : List (Lent ℕ))
+  pub stage-came : (s : Stage) → is_awaited s ≡ true → (mine : Bool) → ((group == 0) || e) ≡ mine → (ns : List (Lent ℕ))
       → stage_by a e (came_first ns) s
       ≡ stage_by a e gs (stage_until a (if mine then own_of port q ns else []) s)
   stage-came s awaited true is [] = refl
@@ -245,14 +249,14 @@ ended-stays a e (Read ∷ hs) = ended-stays a e hs
 -- ---- one call
 
 module _ (a : Answering) (e : Bool) (protocol : NlFamily) (port q : ℕ) (gs : List Happening) where
-  abbrev first_of : Call → List Happening
+  abbrev pub first_of : Call → List Happening
   first_of c = happens protocol port q c ++ gs
 
   -- it brings nothing
-  record IsPassed (c : Call) (was_sent : Bool) : Type 0 where
-    answer_is : answer_since was_sent a e (first_of c) ≡ answer_since (sent_after c was_sent) a e gs
-    stage_is : stage_by a e (first_of c) (stage_of was_sent) ≡ stage_by a e gs (stage_of (sent_after c was_sent))
-    nothing : brought port e q c ≡ []
+  pub record IsPassed (c : Call) (was_sent : Bool) : Type 0 where
+    pub answer_is : answer_since was_sent a e (first_of c) ≡ answer_since (sent_after c was_sent) a e gs
+    pub stage_is : stage_by a e (first_of c) (stage_of was_sent) ≡ stage_by a e gs (stage_of (sent_after c was_sent))
+    pub nothing : brought port e q c ≡ []
 
   leaves : (b was_sent : Bool)
       → (answer_since was_sent a e (if_so b (Changed change.Leave) ++ gs) ≡ answer_since was_sent a e gs)
@@ -284,14 +288,14 @@ module _ (a : Answering) (e : Bool) (protocol : NlFamily) (port q : ℕ) (gs : L
   is-sent false = record { answer_is = refl; stage_is = refl; nothing = refl }
 
   -- it is a datagram without a fault
-  record IsDatagram (c : Call) : Type 0 where
-    group : ℕ
-    joined : Bool
-    datagram : List ℕ
-    is : c ≡ Receive group joined datagram
-    whole : (messages_in {K = ℕ} (λ n. n) datagram).1 ≡ None
+  pub record IsDatagram (c : Call) : Type 0 where
+    pub group : ℕ
+    pub joined : Bool
+    pub datagram : List ℕ
+    pub is : c ≡ Receive group joined datagram
+    pub whole : (messages_in {K = ℕ} (λ n. n) datagram).1 ≡ None
 
-  kind : (c : Call) (was_sent : Bool) → IsFine protocol was_sent c → IsPassed c was_sent ⊎ IsDatagram c
+  pub kind : (c : Call) (was_sent : Bool) → IsFine protocol was_sent c → IsPassed c was_sent ⊎ IsDatagram c
   kind (Send by bytes) was_sent fine = inl (record { answer_is = refl; stage_is = refl; nothing = refl })
   kind Ask was_sent fine = inl (record { answer_is = refl; stage_is = refl; nothing = refl })
   kind (Outgoing o) was_sent fine =
@@ -319,7 +323,7 @@ module _ (a : Answering) (e : Bool) (protocol : NlFamily) (port q : ℕ) (gs : L
   kind CloseMulticast was_sent fine = inl (record { answer_is = refl; stage_is = refl; nothing = refl })
 
   -- a datagram without a fault
-  received : (group : ℕ) (joined : Bool) (datagram : List ℕ) → (messages_in {K = ℕ} (λ n. n) datagram).1 ≡ None
+  pub received : (group : ℕ) (joined : Bool) (datagram : List ℕ) → (messages_in {K = ℕ} (λ n. n) datagram).1 ≡ None
       → first_of (Receive group joined datagram) ≡ came_for port group q (messages_of datagram) ++ gs
   received group joined datagram whole =
       ap (λ (o : Option DeError). (came_for port group q (messages_of datagram)
@@ -327,7 +331,7 @@ module _ (a : Answering) (e : Bool) (protocol : NlFamily) (port q : ℕ) (gs : L
       ∙ ap (λ (hs : List Happening). hs ++ gs) (append-nil (came_for port group q (messages_of datagram)))
 
   -- before the request goes out nothing answers it
-  waits : (c : Call) → goes_out q c ≡ false
+  pub waits : (c : Call) → goes_out q c ≡ false
       → (answer a e (first_of c) ≡ answer a e gs)
       × (stage_by a e (first_of c) stage.Queued ≡ stage_by a e gs stage.Queued)
   waits (Send by bytes) stays = (refl, refl)
@@ -393,7 +397,7 @@ module _ (a : Answering) (e : Bool) (protocol : NlFamily) (port q : ℕ) where
   still-at [] s whole is = absurd (none-whole a whole)
   still-at (d ∷ due) s whole is = is
 
-  not-over : (was_sent : Bool) → is_over (stage_of was_sent) ≡ false
+  pub not-over : (was_sent : Bool) → is_over (stage_of was_sent) ≡ false
   not-over true = refl
   not-over false = refl
 
@@ -512,7 +516,7 @@ module _ (a : Answering) (e : Bool) (protocol : NlFamily) (port q : ℕ) where
     pub answer_is : answer a e hs ≡ as_items came
     pub stage_is : IsAt rest (stage_by a e hs stage.Queued)
 
-  out : (c : Call) (hs : List Happening) → goes_out q c ≡ true
+  pub out : (c : Call) (hs : List Happening) → goes_out q c ≡ true
       → (answer a e (happens protocol port q c ++ hs) ≡ answer_since false a e hs)
       × (stage_by a e (happens protocol port q c ++ hs) stage.Queued ≡ stage_by a e hs stage.Leaving)
   out (Outgoing o) hs is = go (is_in q (numbers_in o)) is

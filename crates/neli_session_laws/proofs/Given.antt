@@ -9,7 +9,7 @@ use Rattle.std.proofs.Math.Facts.{Fits-of_z}
 use Rattle.std.proofs.lemmas.Bool.{eq-eqb, le-ltb, ne_eqb}
 use Rattle.std.proofs.lemmas.Bool.Decides.{Decides-int_eq}
 use Rattle.std.proofs.lemmas.Int.{fits_signed_from_abs, to_z-of_z}
-use Rattle.std.proofs.lemmas.List.Elements.{All-cons, All-head, All-nil, All-push, All-tail}
+use Rattle.std.proofs.lemmas.List.Elements.{All-head, All-nil, All-push, All-tail}
 use Rattle.std.proofs.lemmas.Nat.{and_or_apart}
 use Rattle.byteorder.specs.Numbers.{little_number-reads_back}
 use Rattle.neli_wire.specs.Frames.{number_in}
@@ -44,6 +44,7 @@ use Rattle.neli_session_laws.specs.Answered.{IsWholeAnswer, verdict_on}
 use Rattle.neli_session_laws.specs.Given.{Acknowledged, Dumped, IsAcknowledged, IsDumped, IsFor, IsPart, IsRefused, IsReplied}
 use Rattle.neli_session_laws.specs.Given.{IsSimulated, Refused, Replied}
 use Rattle.neli_session_laws.specs.Given.{verdict_by}
+use Rattle.neli_session_laws.proofs.Coming.{All-as}
 
 -- ---- messages with a body
 
@@ -73,10 +74,6 @@ after-parts asked [] last all = refl
 after-parts asked (m ∷ ms) last all =
     ap (λ (v : Verdict). verdict_after v (as_items (ms ++ last ∷ []))) (part-pending asked m (All-head (IsPart asked) m ms all))
     ∙ after-parts asked ms last (All-tail (IsPart asked) m ms all)
-
-All-as : {P Q : Lent ℕ → Type 0} → ((m : Lent ℕ) → P m → Q m) → (ms : List (Lent ℕ)) → All P ms → All Q ms
-All-as {P} {Q} by [] all = All-nil Q
-All-as {P} {Q} by (m ∷ ms) all = All-cons Q m ms (by m (All-head P m ms all)) (All-as by ms (All-tail P m ms all))
 
 -- ---- a message with a code
 

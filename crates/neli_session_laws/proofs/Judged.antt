@@ -1,6 +1,6 @@
 -- The verdict on an answer, by what was read of it.
-use Rattle.std.proofs.Common.{ℕ, ◌≡◌, false, List, [], ◌∷◌, ◌++◌, Option, Some, None, Ok}
-use Rattle.std.proofs.Common.{refl, sym, subst, ap, ◌∙◌, append_assoc, append-nil, inl, inr}
+use Rattle.std.proofs.Common.{ℕ, ◌≡◌, Bool, true, false, false, List, [], ◌∷◌, ◌++◌, Option, Some, None, Ok}
+use Rattle.std.proofs.Common.{refl, sym, ap, ◌∙◌, append_assoc, append-nil, inl, inr}
 use Rattle.std.specs.Prelude.{◌⊎◌}
 use Rattle.std.proofs.lemmas.List.{map-append}
 use Rattle.neli_answers.specs.declared.answering.Answering.{Answering}
@@ -17,7 +17,7 @@ use Rattle.neli_session.specs.Requests.{verdict_with}
 use Rattle.neli_session.specs.Verdicts.{verdict_after}
 use Rattle.neli_session.specs.Waiting.{Item, as_items}
 use Rattle.neli_session_laws.specs.Answered.{verdict_on}
-use Rattle.neli_session_laws.proofs.Coming.{IsAt}
+use Rattle.neli_session_laws.proofs.Coming.{IsAt, no-truth}
 
 pub after-both : (xs ys : List Item) (v : Verdict)
     → verdict_after v (xs ++ ys) ≡ verdict_after (verdict_after v xs) ys
@@ -66,18 +66,34 @@ none-next (x ∷ xs) l is = absurd cc
 none-next [] (Some l) is = absurd cc
 none-next [] None is = refl
 
-pending-at : (s : Stage) (a : Answering) → is_over s ≡ false → end_verdict s a ≡ stands.Pending
+pub pending-at : (s : Stage) (a : Answering) → is_over s ≡ false → end_verdict s a ≡ stands.Pending
 pending-at stage.Queued a is = refl
 pending-at stage.Leaving a is = refl
 pending-at stage.Awaited a is = refl
 pending-at stage.Ended a is = absurd cc
 pending-at stage.Silent a is = absurd cc
 
+-- where nothing of it is still due it has ended
+abbrev pub is_nothing : List (Lent ℕ) → Bool
+is_nothing [] = true
+is_nothing (d ∷ due) = false
+
+pub over-at : (rest : List (Lent ℕ)) (s : Stage) (a : Answering) → IsAt rest s → is_nothing rest ≡ true
+    → (rest ≡ []) × (end_verdict s a ≡ stands.Complete)
+over-at [] s a far none = (refl, ap (λ (x : Stage). end_verdict x a) far)
+over-at (d ∷ due) s a far none = no-truth none
+
+pub open-at : (rest : List (Lent ℕ)) (s : Stage) (a : Answering) → IsAt rest s → is_nothing rest ≡ false
+    → end_verdict s a ≡ stands.Pending
+open-at [] s a far some = no-truth (sym some)
+open-at (d ∷ due) s a far some = pending-at s a far
+
 -- ---- a request of whose answer all but the rest has come
 
 module _ (r : Request) (said came rest : List (Lent ℕ)) (read : List Item) (all : said ≡ came ++ rest)
-    (is : read ++ left r ≡ as_items came) (noted : r.noted ≡ verdict_after stands.Pending read)
-    (far : IsAt rest r.stage) where
+    (is : read ++ left r ≡ as_items came) (noted : r.noted ≡ verdict_after stands.Pending read) (done : Bool)
+    (over : done ≡ true → (rest ≡ []) × (end_verdict r.stage r.answering ≡ stands.Complete))
+    (goes_on : done ≡ false → end_verdict r.stage r.answering ≡ stands.Pending) where
   abbrev end : Verdict
   end = end_verdict r.stage r.answering
 
@@ -94,19 +110,16 @@ module _ (r : Request) (said came rest : List (Lent ℕ)) (read : List Item) (al
   all-came : rest ≡ [] → said ≡ came
   all-came none = all ∙ ap (λ (ms : List (Lent ℕ)). came ++ ms) none ∙ append-nil came
 
-  complete : rest ≡ [] → end ≡ stands.Complete
-  complete none = ap (λ (s : Stage). end_verdict s r.answering) (subst (λ (ms : List (Lent ℕ)). IsAt ms r.stage) none far)
-
   all-noted : rest ≡ [] → read ≡ as_items came → r.noted ≡ verdict_after stands.Pending (as_items said)
   all-noted none read_is = noted ∙ ap (λ (xs : List Item). verdict_after stands.Pending xs)
       (read_is ∙ ap (λ (ms : List (Lent ℕ)). as_items ms) (sym (all-came none)))
 
-  pub judged-last : rest ≡ [] → left r ≡ [] → verdict_of r ≡ verdict_on said
-  judged-last none read_all =
+  pub judged-last : done ≡ true → left r ≡ [] → verdict_of r ≡ verdict_on said
+  judged-last finished read_all =
       let next = none-next r.waiting (untold r) read_all in
       ap (λ (x : Option Item). verdict_at r.noted x end) next
-      ∙ ap (λ (v : Verdict). verdict_at r.noted None v) (complete none)
-      ∙ ap (λ (v : Verdict). verdict_at v None stands.Complete) (all-noted none (nothing next))
+      ∙ ap (λ (v : Verdict). verdict_at r.noted None v) (over finished).1
+      ∙ ap (λ (v : Verdict). verdict_at v None stands.Complete) (all-noted (over finished).0 (nothing next))
 
   -- what was read decides the verdict
   decided : ((xs : List Item) → verdict_after r.noted xs ≡ r.noted)
@@ -127,18 +140,18 @@ module _ (r : Request) (said came rest : List (Lent ℕ)) (read : List Item) (al
       ap (λ (v : Verdict). verdict_at v (next_item r) end) pending
       ∙ ap (λ (y : Option Item). verdict_at stands.Pending y end) next
       )
-  undecided pending None next = by rest refl
+  undecided pending None next = by done refl
     where
       at_end : verdict_of r ≡ end
       at_end = ap (λ (v : Verdict). verdict_at v (next_item r) end) pending
           ∙ ap (λ (y : Option Item). verdict_at stands.Pending y end) next
 
-      by : (due : List (Lent ℕ)) → rest ≡ due → (verdict_of r ≡ stands.Pending) ⊎ (verdict_of r ≡ verdict_on said)
-      by [] none = inr (at_end ∙ complete none ∙ sym (
-          ap (λ (v : Verdict). verdict_at v None stands.Complete) (sym (all-noted none (nothing next)) ∙ pending)
+      by : (b : Bool) → done ≡ b → (verdict_of r ≡ stands.Pending) ⊎ (verdict_of r ≡ verdict_on said)
+      by true finished = inr (at_end ∙ (over finished).1 ∙ sym (
+          ap (λ (v : Verdict). verdict_at v None stands.Complete)
+          (sym (all-noted (over finished).0 (nothing next)) ∙ pending)
           ))
-      by (d ∷ due) some = inl (at_end ∙ pending-at r.stage r.answering
-          (subst (λ (ms : List (Lent ℕ)). IsAt ms r.stage) some far))
+      by false open_is = inl (at_end ∙ goes_on open_is)
 
   pub judged : (verdict_of r ≡ stands.Pending) ⊎ (verdict_of r ≡ verdict_on said)
   judged = by (stays r.noted)

@@ -3,3 +3,4 @@ mod Judged
 mod Answered
 mod Given
 mod Busy
+mod Silent

@@ -39,7 +39,7 @@ runs_after s c runs = runs
 
 -- ---- what it refuses
 
--- a dump arrives while one runs
+-- a dump arrives while one runs: a datagram with a request that is answered by one, as the caller says or by the table
 abbrev pub is_busy : Call → Option ℕ → Bool
 is_busy (Outgoing (Some p)) runs = is_some p.dump && is_some runs
 is_busy c runs = false

@@ -2,3 +2,4 @@ pub mod Served
 pub mod Answered
 pub mod Given
 pub mod Busy
+pub mod Silent

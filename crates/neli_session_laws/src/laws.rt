@@ -4,6 +4,7 @@ ghost use Rattle.neli_session_laws.specs.Answered.{RequestsAreAnswered};
 ghost use Rattle.neli_session_laws.specs.Busy.{NoDumpIsRefused};
 ghost use Rattle.neli_session_laws.specs.Given.{DatagramsBringAnswers, SimulatedAnswersAreWhole};
 ghost use Rattle.neli_session_laws.specs.Given.{SimulatedRequestsAreAnswered};
+ghost use Rattle.neli_session_laws.specs.Silent.{SilentRequestsAreComplete};
 
 use neli_kernel::laws::{answers_are_one_frame, finished_dump_is_delivered};
 use neli_session::laws::{
@@ -19,6 +20,21 @@ use neli_session::laws::{
 #[tactic(auto, using(crate::proofs::Answered::answered))]
 pub fn requests_are_answered()
     ensures { RequestsAreAnswered }
+{
+    requests_are_followed();
+    reads_are_the_answer();
+    reads_are_noted();
+    stages_follow();
+}
+
+/// A request that nothing answers to an end, as a change of routing without an acknowledgement, is `Complete` once the
+/// link was seen empty and all was read: the notifications of its change that came, if it has ECHO, each once and in
+/// order, and then the end. Before that its verdict is `Pending`.
+///
+/// From when it goes out until then the link has no fault.
+#[tactic(auto, using(crate::proofs::Answered::silent_complete))]
+pub fn silent_requests_are_complete()
+    ensures { SilentRequestsAreComplete }
 {
     requests_are_followed();
     reads_are_the_answer();
