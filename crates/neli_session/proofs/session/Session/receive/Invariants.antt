@@ -1,4 +1,4 @@
-use Rattle.std.proofs.Common.{◌-◌, ◌≤◌, length, take}
+use Rattle.std.proofs.Common.{◌≡◌, ◌-◌, ◌≤◌, length, take}
 use Rattle.neli_session.specs.Messages.{IsWhole, messages_of}
 use Rattle.neli_session.specs.Readiness.{line_after_all}
 use Rattle.neli_session.specs.Sends.{SameSending}
