@@ -110,10 +110,7 @@ int32_t neli_host_send(struct neli_host *host, uint16_t type, uint16_t flags, co
 /* ---- What comes ---- */
 
 void host_drop(struct neli_host *host, enum neli_reader reader) {
-    struct neli_lent lent;
-    int32_t code;
-    while ((code = neli_session_next(&host->session, reader, 0, &lent)) != NELI_WAITS && code != NELI_HANDLE)
-        neli_session_pass(&host->session, reader, 0);
+    while (neli_session_is_ready(&host->session, reader, 0) == NELI_ITEM) neli_session_pass(&host->session, reader, 0);
 }
 
 static bool is_held(const struct neli_host *host) {

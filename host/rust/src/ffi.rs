@@ -177,6 +177,7 @@ unsafe extern "C" {
     ) -> i32;
     fn neli_c_session_fault(session: *mut RawSession, error_number: i32) -> i32;
     fn neli_c_session_quiet(session: *mut RawSession) -> i32;
+    fn neli_c_session_is_ready(session: *mut RawSession, reader: u32, number: u32) -> i32;
     fn neli_c_session_next(session: *mut RawSession, reader: u32, number: u32, lent: *mut RawLent) -> i32;
     fn neli_c_session_pass(session: *mut RawSession, reader: u32, number: u32) -> i32;
     fn neli_c_session_verdict(session: *mut RawSession, number: u32, verdict: *mut Verdict) -> i32;
@@ -354,6 +355,13 @@ impl Session {
     pub fn quiet(&mut self) {
         // SAFETY: the session is open, and borrowed exclusively.
         unsafe { neli_c_session_quiet(self.raw()) };
+    }
+
+    /// Whether a reader has something: an item, a loss or the end.
+    pub fn is_ready(&mut self, reader: Reader) -> bool {
+        let (reader, number) = reader.raw();
+        // SAFETY: the session is open, and borrowed exclusively.
+        unsafe { neli_c_session_is_ready(self.raw(), reader, number) == ITEM }
     }
 
     /// The code of a reader's next item, and the error beside it. A message is lent: `lent` returns it, until the next

@@ -204,16 +204,16 @@ impl State {
     /// Wakes the readers that have something.
     fn ring(&mut self) {
         for (reader, bell) in &self.bells {
-            if self.session.next(*reader).0 != ffi::WAITS {
+            if self.session.is_ready(*reader) {
                 bell.notify_one();
             }
         }
         for (reader, task) in &self.tasks {
-            if self.session.next(*reader).0 != ffi::WAITS {
+            if self.session.is_ready(*reader) {
                 task.wake_by_ref();
             }
         }
-        if self.watcher.is_some_and(|it| self.session.next(it).0 != ffi::WAITS) {
+        if self.watcher.is_some_and(|it| self.session.is_ready(it)) {
             self.link.wake();
         }
     }
@@ -270,7 +270,7 @@ impl State {
 
     /// Goes past all that waits.
     pub(super) fn pass_all(&mut self, reader: Reader) {
-        while !matches!(self.session.next(reader).0, ffi::WAITS | ffi::HANDLE) {
+        while self.session.is_ready(reader) {
             self.pass(reader);
         }
     }
