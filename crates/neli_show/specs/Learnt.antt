@@ -71,7 +71,7 @@ input_learnt protocol tables bytes n before (item ∷ items) =
     items
 
 -- the tables that an input is read by: those that are built in, with the numbers of families that
--- the last word and the input have
+-- a word and the input have
 abbrev pub AreTables : Option (List ℕ) → ℕ → List ℕ → List Item → Tables → Type 0
 AreTables word protocol bytes items tables =
     AreRead built_in_headings (tables_in tables)

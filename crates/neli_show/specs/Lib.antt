@@ -1,5 +1,6 @@
 pub mod Families
 pub mod Gathered
+pub mod Infos
 pub mod Learnt
 pub mod Lines
 pub mod Numbers

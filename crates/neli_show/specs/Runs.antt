@@ -1,7 +1,6 @@
 -- How a run ends.
-use Rattle.std.specs.Prelude.{◌≡◌, ℕ, ◌-◌, Bool, true, false, List, [], ◌∷◌, ◌++◌, length, map, codes}
-use Rattle.std.specs.Prelude.{slice_get}
-use Rattle.std.specs.Prelude.{string_bytes, Option, Some, None, Result, Ok, Err}
+use Rattle.std.specs.Prelude.{◌≡◌, ℕ, Bool, true, false, List, [], ◌∷◌, ◌++◌, find, map, codes}
+use Rattle.std.specs.Prelude.{string_bytes, Option, Some, None, is_some, Result, Ok, Err}
 use Rattle.std.specs.Io.KnownBytes.{Appends}
 use Rattle.std.specs.IoError.{error_kind}
 use Rattle.std.specs.Option.{ok_or}
@@ -15,12 +14,14 @@ use Rattle.neli_inputs.specs.Inputs.{IsInput}
 use Rattle.neli_inputs.specs.declared.item.Item.{Item}
 use Rattle.neli_tables.specs.declared.tables.Tables.{Tables}
 use Rattle.neli_show.specs.declared.request.Request.{Request}
+use Rattle.neli_show.specs.declared.request.Command.{Command}
 use Rattle.neli_show.specs.declared.run.Status.{Status}
 use Rattle.neli_show.specs.declared.run.Status.TheVariants as status
+use Rattle.neli_show.specs.Families.{family_in}
 use Rattle.neli_show.specs.Learnt.{AreTables}
 use Rattle.neli_show.specs.Lines.{is_whole_input}
 use Rattle.neli_show.specs.Parts.{input_by}
-use Rattle.neli_show.specs.Requests.{request_in}
+use Rattle.neli_show.specs.Requests.{command_in}
 
 -- the exit status
 abbrev pub status_code : Status → ℕ
@@ -39,7 +40,7 @@ complaint_text status.NoInput = Some (codes "neli_show: the input cannot be read
 complaint_text status.NoOutput = Some (codes "neli_show: the output cannot be written")
 complaint_text status.Usage =
     Some (codes
-    "usage: neli_show [json | color] [route | connector | generic[:FAMILY=ID] | NUMBER] < FILE")
+    "usage: neli_show [--json | --color[=WHEN]] [route | connector | generic[:FAMILY=ID] | NUMBER] < FILE (--help says more)")
 complaint_text status.Memory = Some (codes "neli_show: out of memory")
 
 -- a message in a line of its own, or nothing
@@ -57,18 +58,15 @@ abbrev pub unread_status : ErrorKind → Status
 unread_status OutOfMemory = status.Memory
 unread_status kind = status.Usage
 
--- the request in the words, or else the status of a run that prints nothing
-abbrev pub asked_in : Result (Vec (String Global) Global) Error → Result Request Status
-asked_in (Ok words) = ok_or (request_in (map string_bytes words.items)) status.Usage
-asked_in (Err error) = Err (unread_status (error_kind error))
+-- the command in the words, or else the status of a run that prints nothing; whether the output is a terminal
+abbrev pub asked_in : Bool → Result (Vec (String Global) Global) Error → Result Command Status
+asked_in terminal (Ok words) = ok_or (command_in terminal (map string_bytes words.items)) status.Usage
+asked_in terminal (Err error) = Err (unread_status (error_kind error))
 
--- the last word
-abbrev pub last_of : List (List ℕ) → Option (List ℕ)
-last_of words = slice_get words (length words - 1)
-
-abbrev pub last_word : Result (Vec (String Global) Global) Error → Option (List ℕ)
-last_word (Ok words) = last_of (map string_bytes words.items)
-last_word (Err error) = None
+-- the first word that names a family and its number
+abbrev pub family_word : Result (Vec (String Global) Global) Error → Option (List ℕ)
+family_word (Ok words) = find (λ word. is_some (family_in word)) (map string_bytes words.items)
+family_word (Err error) = None
 
 -- the status of a run that printed its input: it is only messages, or not
 abbrev pub printed_status : Bool → Status
@@ -77,7 +75,7 @@ printed_status false = status.Fault
 
 -- what a run with this request writes of an input, and how it ends: the input's datagrams and what
 -- is none, as text or JSON by the tables that are built in and the numbers of families that the
--- input has
+-- input has, of which the word names one
 abbrev pub IsShown : Request → Option (List ℕ) → List ℕ → Option (List ℕ) → Option (List ℕ) → Status
     → Type 0
 IsShown request word input old new end =

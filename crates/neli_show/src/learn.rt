@@ -8,8 +8,8 @@ ghost use Rattle.neli_tables.specs.Families.{learnt, tables_in};
 
 use crate::family::family_of;
 use crate::part::packet_bytes;
-use neli_lent::LentMessages;
 use neli_inputs::{Input, Item};
+use neli_lent::LentMessages;
 use neli_tables::Tables;
 use neli_tables_walk::{Head, learn_from};
 use std::alloc::AllocError;

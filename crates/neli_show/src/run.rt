@@ -1,6 +1,7 @@
 //! A run of the program.
 
 ghost use Rattle.std.specs.Prelude.{◌≡◌, ◌≢◌, Err, IfErr, IfOk, IfSome, IsErr, IsOk, None, Ok, OnErr, OnOk};
+ghost use Rattle.std.specs.Prelude.{◌⊎◌, find, is_some, map, string_bytes};
 ghost use Rattle.std.specs.IoError.{error_kind};
 ghost use Rattle.std.specs.Io.KnownBytes.{Appends, IsAtEnd};
 ghost use Rattle.std.specs.Option.{option_map};
@@ -8,15 +9,20 @@ ghost use Rattle.neli_show.specs.declared.request.Request.{Request as Asked};
 ghost use Rattle.neli_show.specs.Learnt.{AreTables};
 ghost use Rattle.neli_show.specs.Lines.{Writes, WritesInput, is_whole_input};
 ghost use Rattle.neli_show.specs.Parts.{input_by};
-ghost use Rattle.neli_show.specs.Runs.{IsShown, asked_in, complaint_line, complaint_text, input_status};
-ghost use Rattle.neli_show.specs.Runs.{last_word};
+ghost use Rattle.neli_show.specs.Runs.{IsShown, asked_in, complaint_line, complaint_text, family_word};
+ghost use Rattle.neli_show.specs.Runs.{input_status};
+ghost use Rattle.neli_show.specs.Families.{family_in};
+ghost use Rattle.neli_show.specs.Infos.{info_text};
+ghost use Rattle.neli_show.specs.declared.info.Info.{Info as Told};
 ghost use Rattle.neli_show.specs.Runs.{printed_status, status_code, unread_status};
 ghost use Rattle.neli_tables_walk.specs.Json.{AreLines};
 
+use crate::family::family_of;
 use crate::gathered::print;
+use crate::info::Info;
 use crate::learn::{learn_input, learn_word};
 use crate::part::Parts;
-use crate::request::{Output, Request, request_of};
+use crate::request::{Command, Output, Request, command_in};
 use crate::whole::is_whole_input;
 use neli_inputs::{Input, read_input};
 use neli_tables::{ReadError, Tables};
@@ -64,8 +70,8 @@ impl Status {
             Status::NoInput => Some("neli_show: the input cannot be read"),
             Status::NoOutput => Some("neli_show: the output cannot be written"),
             Status::Usage => Some(
-                "usage: neli_show [json | color] \
-                [route | connector | generic[:FAMILY=ID] | NUMBER] < FILE",
+                "usage: neli_show [--json | --color[=WHEN]] \
+                [route | connector | generic[:FAMILY=ID] | NUMBER] < FILE (--help says more)",
             ),
             Status::Memory => Some("neli_show: out of memory"),
         }
@@ -122,7 +128,7 @@ fn show_by<W: Write>(out: &mut W, tables: &Tables<'_>, request: Request, input: 
 }
 
 /// The tables that an input is read by: those that are built in, with the numbers of families that
-/// the last word and the input have.
+/// a word and the input have.
 fn tables_for(
     alloc: Global,
     word: Option<&str>,
@@ -199,28 +205,53 @@ fn show<R: Read, W: Write>(
     }
 }
 
-/// Returns the request in these words, or the status of a run whose words were not read.
-fn asked(words: &io::Result<Vec<String>>) -> Result<Request, Status>
+/// Returns the command in these words, or the status of a run whose words were not read.
+fn asked(terminal: bool, words: &io::Result<Vec<String>>) -> Result<Command, Status>
     ensures unread { IfErr words.now (λ error. result ≡ Err (unread_status (error_kind error))) }
-    ensures any { result ≡ asked_in words.now }
+    ensures any { result ≡ asked_in terminal words.now }
 {
     match words {
-        Ok(words) => request_of(words.as_slice()).ok_or(Status::Usage),
+        Ok(words) => command_in(terminal, words.as_slice()).ok_or(Status::Usage),
         Err(error) if error.kind() == ErrorKind::OutOfMemory => Err(Status::Memory),
         Err(_) => Err(Status::Usage),
     }
 }
 
-/// The last word.
-fn last_word(words: &io::Result<Vec<String>>) -> Option<&str>
-    ensures { option_map (λ word. word.now) result ≡ last_word words.now }
+/// The first of these words that names a family and its number.
+fn family_in(words: &[String]) -> Option<&str>
+    ensures { option_map (λ word. word.now) result
+        ≡ find (λ word. is_some (family_in word)) (map string_bytes words.now) }
+{
+    for word in words {
+        if family_of(word.as_str()).is_some() {
+            return Some(word.as_str());
+        }
+    }
+    None
+}
+
+/// The first word that names a family and its number.
+fn family_word(words: &io::Result<Vec<String>>) -> Option<&str>
+    ensures { option_map (λ word. word.now) result ≡ family_word words.now }
 {
     match words {
-        Ok(words) => match words.last() {
-            Some(word) => Some(word.as_str()),
-            None => None,
-        },
+        Ok(words) => family_in(words.as_slice()),
         Err(_) => None,
+    }
+}
+
+/// Prints what the program says of itself.
+fn tell<W: Write>(info: Info, out: &mut W) -> Status
+    ensures told { result ≡ Status.Whole
+        → Appends (W.contents out.old) (W.contents out.new) (info_text info) }
+    ensures ends { (result ≡ Status.Whole) ⊎ (result ≡ Status.NoOutput) }
+{
+    match out.write_all(info.text().as_bytes()) {
+        Ok(()) => match out.flush() {
+            Ok(()) => Status::Whole,
+            Err(_) => Status::NoOutput,
+        },
+        Err(_) => Status::NoOutput,
     }
 }
 
@@ -236,39 +267,44 @@ fn complain<C: Write>(complaints: &mut C, status: Status) -> io::Result<()>
     }
 }
 
-/// Performs the request in these words, and returns the status of the run; writes the cause of a
+/// Performs the command in these words, and returns the status of the run; writes the cause of a
 /// failure to `complaints`.
 pub fn run<R: Read, W: Write, C: Write>(
     alloc: Global,
+    terminal: bool,
     words: &io::Result<Vec<String>>,
     input: &mut R,
     out: &mut W,
     complaints: &mut C,
 ) -> Status
-    ensures shown { (request : Asked) → asked_in words.now ≡ Ok request
+    ensures shown { (request : Asked) → asked_in terminal words.now ≡ Ok (Command.Show request)
         → result ≢ Status.NoOutput → result ≢ Status.NoInput → result ≢ Status.Memory
         → IfSome (R.remaining input.old)
-        (λ bytes. IsShown request (last_word words.now) bytes (W.contents out.old)
+        (λ bytes. IsShown request (family_word words.now) bytes (W.contents out.old)
         (W.contents out.new) result) }
-    ensures json { (request : Asked) → asked_in words.now ≡ Ok request
+    ensures json { (request : Asked) → asked_in terminal words.now ≡ Ok (Command.Show request)
         → request.output ≡ Output.Json → result ≢ Status.NoOutput
         → Writes (W.contents out.old) (W.contents out.new) AreLines }
-    ensures lines { (request : Asked) → asked_in words.now ≡ Ok request
+    ensures lines { (request : Asked) → asked_in terminal words.now ≡ Ok (Command.Show request)
         → request.output ≡ Output.Json → result ≢ Status.NoOutput → result ≢ Status.NoInput
         → result ≢ Status.Memory
         → IfSome (R.remaining input.old)
         (λ bytes. WritesInput bytes (W.contents out.old) (W.contents out.new)) }
-    ensures asked { (request : Asked) → asked_in words.now ≡ Ok request → result ≢ Status.Usage }
-    ensures refused { IfErr (asked_in words.now)
+    ensures told { (info : Told) → asked_in terminal words.now ≡ Ok (Command.Tell info)
+        → (input.new ≡ input.old) × (result ≡ Status.Whole
+        → Appends (W.contents out.old) (W.contents out.new) (info_text info)) }
+    ensures asked { IsOk (asked_in terminal words.now) → result ≢ Status.Usage }
+    ensures refused { IfErr (asked_in terminal words.now)
         (λ status. (result ≡ status) × (out.new ≡ out.old) × (input.new ≡ input.old)) }
     ensures unread { result ≡ Status.NoInput → out.new ≡ out.old }
     ensures memory { result ≡ Status.Memory → out.new ≡ out.old }
-    ensures read { (request : Asked) → asked_in words.now ≡ Ok request → result ≢ Status.NoInput
-        → result ≢ Status.Memory → IsAtEnd (R.remaining input.new) }
+    ensures read { (request : Asked) → asked_in terminal words.now ≡ Ok (Command.Show request)
+        → result ≢ Status.NoInput → result ≢ Status.Memory → IsAtEnd (R.remaining input.new) }
     ensures quiet { complaint_text result ≡ None → complaints.new ≡ complaints.old }
 {
-    let status = match asked(words) {
-        Ok(request) => show(alloc, request, last_word(words), input, out),
+    let status = match asked(terminal, words) {
+        Ok(Command::Show(request)) => show(alloc, request, family_word(words), input, out),
+        Ok(Command::Tell(info)) => tell(info, out),
         Err(status) => status,
     };
     // If this fails too, only the status reports it.

@@ -4,8 +4,8 @@ ghost use Rattle.std.specs.Prelude.{◌≡◌};
 ghost use Rattle.neli_show.specs.Lines.{is_whole_datagram, is_whole_input, is_whole_packet};
 
 use crate::part::packet_bytes;
-use neli_lent::LentMessages;
 use neli_inputs::{Input, Item};
+use neli_lent::LentMessages;
 
 /// Whether no fault follows the messages of a datagram.
 fn is_whole_datagram(bytes: &[u8]) -> bool
