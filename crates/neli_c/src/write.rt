@@ -110,7 +110,9 @@ pub extern "C" fn neli_c_put_bytes(out: &mut [u8], writer: &mut NeliWriter, byte
     ensures written { result ≡ ok → IfOk (pad_wire (Ok bytes.now))
         (λ written. out.new ≡ put writer.old.end written out.old) }
     ensures moved { result ≡ ok → writer.new ≡ record {
-        start = start_after writer.old.start writer.old.end; end = writer.old.end + align (length bytes.now) } }
+      start = start_after writer.old.start writer.old.end;
+      end = writer.old.end + align (length bytes.now);
+    } }
     ensures unchanged { result ≢ ok → (out.new ≡ out.old) × (writer.new ≡ writer.old) }
 {
     let start = writer.end;
@@ -153,8 +155,10 @@ fn append(out: &mut [u8], writer: &mut NeliWriter, nl_type: u16, payload: &[u8])
     ensures written { result ≡ ok
         → IfOk (attribute_wire (4 + length payload.now) nl_type (Ok payload.now))
         (λ written. out.new ≡ put writer.old.end written out.old) }
-    ensures moved { result ≡ ok → writer.new ≡ record { start = start_after writer.old.start writer.old.end;
-        end = writer.old.end + align (4 + length payload.now) } }
+    ensures moved { result ≡ ok → writer.new ≡ record {
+      start = start_after writer.old.start writer.old.end;
+      end = writer.old.end + align (4 + length payload.now);
+    } }
     ensures unchanged { result ≢ ok → (out.new ≡ out.old) × (writer.new ≡ writer.old) }
 {
     if MAX_ATTR_SIZE - ATTRIBUTE_HEADER_SIZE < payload.len() {
@@ -188,8 +192,10 @@ pub extern "C" fn neli_c_put_attribute(
     ensures written { result ≡ ok
         → IfOk (attribute_wire (4 + length payload.now) nl_type (Ok payload.now))
         (λ written. out.new ≡ put writer.old.end written out.old) }
-    ensures moved { result ≡ ok → writer.new ≡ record { start = start_after writer.old.start writer.old.end;
-        end = writer.old.end + align (4 + length payload.now) } }
+    ensures moved { result ≡ ok → writer.new ≡ record {
+      start = start_after writer.old.start writer.old.end;
+      end = writer.old.end + align (4 + length payload.now);
+    } }
     ensures unchanged { result ≢ ok → (out.new ≡ out.old) × (writer.new ≡ writer.old) }
 {
     append(out, writer, nl_type, payload)
@@ -210,7 +216,9 @@ pub extern "C" fn neli_c_begin_nest(
     ensures written { result ≡ ok → IfOk (attribute_wire 4 (bit_or nl_type 32768) (Ok []))
         (λ written. out.new ≡ put writer.old.end written out.old) }
     ensures moved { result ≡ ok → writer.new ≡ record {
-        start = start_after writer.old.start writer.old.end; end = writer.old.end + 4 } }
+      start = start_after writer.old.start writer.old.end;
+      end = writer.old.end + 4;
+    } }
     ensures nest { result ≡ ok → nest.new ≡ writer.old.end }
     ensures unchanged { result ≢ ok
         → (out.new ≡ out.old) × (writer.new ≡ writer.old) × (nest.new ≡ nest.old) }
