@@ -391,11 +391,11 @@ impl Session {
         unsafe { neli_c_session_pass(self.raw(), reader, number) };
     }
 
-    /// The code of the verdict on the answer to a request, and the error beside it.
-    pub fn verdict(&mut self, number: u32) -> (i32, i32) {
+    /// The code of the verdict on the answer to a request, and what stands beside it.
+    pub fn verdict(&mut self, number: u32) -> (i32, Verdict) {
         let mut verdict = Verdict::default();
         // SAFETY: the session is open, and borrowed exclusively, as `verdict` is.
-        (unsafe { neli_c_session_verdict(self.raw(), number, &mut verdict) }, verdict.error)
+        (unsafe { neli_c_session_verdict(self.raw(), number, &mut verdict) }, verdict)
     }
 
     /// Closes a request.

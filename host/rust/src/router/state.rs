@@ -278,8 +278,13 @@ impl State {
     /// The verdict on the answer to a request; none on what others read.
     pub(super) fn verdict(&mut self, reader: Reader) -> Verdict {
         let Reader::Request(number) = reader else { return Verdict::Pending };
-        let (code, error) = self.session.verdict(number);
-        Verdict::of(code, error)
+        let (code, beside) = self.session.verdict(number);
+        Verdict::of(code, beside.error)
+    }
+
+    /// Whether the kernel marked what was read of the answer to a request as filtered.
+    pub(super) fn is_filtered(&mut self, reader: Reader) -> bool {
+        matches!(reader, Reader::Request(number) if self.session.verdict(number).1.filtered != 0)
     }
 
     /// Nobody reads here any more.

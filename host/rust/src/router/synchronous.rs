@@ -267,7 +267,6 @@ pub struct NlRouterReceiverHandle<T, P> {
     shared: Arc<Shared>,
     reader: Reader,
     is_stopped: bool,
-    is_filtered: bool,
     /// The verdict, once a message could not be read as the caller's types, which the library does not see.
     spoilt: Option<Verdict>,
     of: PhantomData<fn() -> (T, P)>,
@@ -276,7 +275,7 @@ pub struct NlRouterReceiverHandle<T, P> {
 impl<T, P> NlRouterReceiverHandle<T, P> {
     fn new(shared: &Arc<Shared>, reader: Reader) -> Self {
         let shared = Arc::clone(shared);
-        NlRouterReceiverHandle { shared, reader, is_stopped: false, is_filtered: false, spoilt: None, of: PhantomData }
+        NlRouterReceiverHandle { shared, reader, is_stopped: false, spoilt: None, of: PhantomData }
     }
 
     /// The next reply, read as these types; none after the last. A request that the kernel refuses is an error, a
@@ -312,7 +311,6 @@ impl<T, P> NlRouterReceiverHandle<T, P> {
     fn typed<TT: NlType, PP: FromBytes>(&mut self, read: Result<Owned, RouterError>) -> Reply<TT, PP> {
         let (head, payload) = read?;
         let is_answer = matches!(self.reader, Reader::Request(_));
-        self.is_filtered |= is_answer && head.flags & NlmF::DUMP_FILTERED.bits() != 0;
         Nlmsghdr::of_message(&payload, &head).map_err(|error| {
             self.spoilt = is_answer.then(|| self.verdict().unreadable());
             error.into()
@@ -371,7 +369,7 @@ impl<T, P> NlRouterReceiverHandle<T, P> {
     /// Whether a returned message states that the kernel filtered as requested, by the flag `NLM_F_DUMP_FILTERED`. A
     /// kernel that cannot filter lists everything.
     pub fn is_filtered(&self) -> bool {
-        self.is_filtered
+        self.shared.state().is_filtered(self.reader)
     }
 
     /// Requests the whole state after a loss of multicast: returns the messages of a complete dump. Messages for groups
