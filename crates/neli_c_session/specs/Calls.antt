@@ -16,8 +16,8 @@ use Rattle.neli_session.specs.Lines.{without}
 use Rattle.neli_session.specs.Messages.{IsWhole, messages_of}
 use Rattle.neli_session.specs.Readiness.{line_after_all, line_among, line_received}
 use Rattle.neli_session.specs.Requests.{left_at, lost, sent_at, settled, unsent}
-use Rattle.neli_session.specs.Sends.{IsQueued, IsRequested, NothingQueued, RefusesSend, SameBesides, SameNames}
-use Rattle.neli_session.specs.Sends.{SameParcels, SameReaders, SameSending, ends_now, is_idle, next_of, runs_now}
+use Rattle.neli_session.specs.Sends.{IsFirstFree, IsQueued, IsRequested, NothingQueued, RefusesSend, SameBesides, SameNames}
+use Rattle.neli_session.specs.Sends.{SameMails, SameReaders, SameSending, ends_now, is_idle, next_of, runs_now}
 use Rattle.neli_session.specs.Sessions.{HaveCome, HaveComeBeforeLoss, among, at, closed_at, gains, kept, kept_queue}
 use Rattle.neli_c_parts.specs.Codes.{bad_length, in_use, item, kind, memory, ok, waits}
 use Rattle.neli_c_parts.specs.Expecting.{answering_of_number}
@@ -40,18 +40,18 @@ IsNew protocol port keeps s =
 -- all but the number to try first is the same
 abbrev pub SameButNumber : Session → Session → Type 0
 SameButNumber s t =
-    (t.requests ≡ s.requests) × SameReaders s t × SameParcels s t × (t.awaited ≡ s.awaited)
+    (t.requests ≡ s.requests) × SameReaders s t × SameMails s t × (t.awaited ≡ s.awaited)
     × (t.is_congested ≡ s.is_congested) × (t.port ≡ s.port) × (t.protocol ≡ s.protocol)
 
 -- this number is tried first for the next request
 abbrev pub SetsNumber : ℕ → Session → Session → Type 0
 SetsNumber number s t = (t.next_number ≡ number) × SameButNumber s t
 
--- a number is taken that is not in use; or none is free
+-- the first number that is free is taken; or none is free
 abbrev pub TakesNumber : ℤ → Session → Session → ℕ → ℕ → Type 0
 TakesNumber code s t old new =
-    ((code ≡ ok) ⊎ (code ≡ in_use)) × (code ≡ ok → at s.requests new ≡ None) × (code ≢ ok → new ≡ old)
-    × SameButNumber s t
+    ((code ≡ ok) ⊎ (code ≡ in_use)) × (code ≡ ok → IsFirstFree (at s.requests) s.next_number (Some new))
+    × (code ≡ in_use → IsFirstFree (at s.requests) s.next_number None) × (code ≢ ok → new ≡ old) × SameButNumber s t
 
 -- the requests that have something to read stand as they did
 abbrev pub SameLine : Session → Session → Type 0
@@ -178,7 +178,7 @@ TakesFault code errno s t =
     ((code ≡ ok) ⊎ (code ≡ memory))
     × (code ≡ ok → Fails errno s t)
     × (code ≡ memory → (t.requests ≡ s.requests) × SameReaders s t × (t.is_congested ≡ s.is_congested))
-    × SameNames s t × SameParcels s t × (t.awaited ≡ s.awaited)
+    × SameNames s t × SameMails s t × (t.awaited ≡ s.awaited)
 
 -- the link was seen empty
 abbrev pub FallsQuiet : Session → Session → Type 0
@@ -188,7 +188,7 @@ FallsQuiet s t =
     × LineIsChanged (ends_now s) (λ r. record r { stage = settled r.stage }) s t
     × (t.awaited.items ≡ (if answers_at_once s.protocol && is_idle s then [] else s.awaited.items))
     × (t.is_congested ≡ false)
-    × SameNames s t × SameParcels s t × SameReaders s t
+    × SameNames s t × SameMails s t × SameReaders s t
 
 -- ---- what is closed
 

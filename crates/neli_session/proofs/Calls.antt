@@ -31,9 +31,9 @@ sound-as f A A' O O' L L' N N' a o l n sound = rw (a, o, l, n) sound
 -- where nothing is sent, and each request is later
 sound-if-later : (s t : Session) → SameSending s t → ((q : ℕ) → IsLater (at s.requests q) (at t.requests q))
     → IsSoundSession s → IsSoundSession t
-sound-if-later s t (names, parcels, awaited, congested) later sound =
+sound-if-later s t (names, mails, awaited, congested) later sound =
     sound-as (at t.requests) s.awaited.items t.awaited.items s.outbox.items t.outbox.items s.leaving t.leaving
-    s.running t.running (rw awaited refl) (rw parcels.0 refl) parcels.1 parcels.2
+    s.running t.running (rw awaited refl) (rw mails.0 refl) mails.1 mails.2
     (sound-later (at s.requests) (at t.requests) s.awaited.items s.outbox.items s.leaving s.running sound later)
 
 -- what happens to one request
@@ -107,16 +107,16 @@ step-sound (NotSent errno) s t (leaving, requests, outbox, running, same) sound 
     (change.Unsent errno) sound (later-unsent errno) (unsent-goes errno) requests)
 step-sound (Receive group joined datagram) s t received sound =
     sound-if-later s t received.2 (later-received group joined datagram s t received) sound
-step-sound (Fault errno) s t (requests, multicast, unasked, congested, names, parcels, awaited) sound =
+step-sound (Fault errno) s t (requests, multicast, unasked, congested, names, mails, awaited) sound =
     sound-as (at t.requests) s.awaited.items t.awaited.items s.outbox.items t.outbox.items s.leaving t.leaving
-    s.running t.running (rw awaited refl) (rw parcels.0 refl) parcels.1 parcels.2
+    s.running t.running (rw awaited refl) (rw mails.0 refl) mails.1 mails.2
     (sound-later (at s.requests) (at t.requests) s.awaited.items s.outbox.items s.leaving s.running sound
     (λ q. subst (λ (o : Option Request). IsLater (at s.requests q) o) (sym (requests q))
     (later-among (when (change.Lose (loss.Link errno))) (later-lost (loss.Link errno)) q s.awaited.items
     (at s.requests q))))
-step-sound Quiet s t (requests, awaited, congested, names, parcels, readers) sound =
+step-sound Quiet s t (requests, awaited, congested, names, mails, readers) sound =
     sound-as (at t.requests) t.awaited.items t.awaited.items s.outbox.items t.outbox.items s.leaving t.leaving
-    s.running t.running refl (rw parcels.0 refl) parcels.1 parcels.2
+    s.running t.running refl (rw mails.0 refl) mails.1 mails.2
     (sound-quiet (at s.requests) (at t.requests) s.awaited.items t.awaited.items s.outbox.items s.leaving s.running
     (answers_at_once s.protocol) sound requests awaited)
 step-sound (PassAnswer p) s t one sound = sound-of-one p passed_at later-passed s t one sound

@@ -308,10 +308,10 @@ module _ (s t : Session) (q : ℕ) (r : Request) (sound : IsSoundSession s) (was
       among-was (change.Unsent errno) (numbers_in s.leaving) (λ out. unsent-elsewhere errno r (gone-else out))
       (requests q)
   open-step (Receive group joined datagram) is stays = received group joined datagram is
-  open-step (Fault errno) (requests, multicast, unasked, congested, names, parcels, awaited) stays =
+  open-step (Fault errno) (requests, multicast, unasked, congested, names, mails, awaited) stays =
       among-was (change.Lose (loss.Link errno)) s.awaited.items
       (λ out. lost-over (loss.Link errno) r (over-else out)) (requests q)
-  open-step Quiet (requests, awaited, congested, names, parcels, readers) stays =
+  open-step Quiet (requests, awaited, congested, names, mails, readers) stays =
       go (answers_at_once s.protocol) (requests q)
     where
       go : (b : Bool)
@@ -378,8 +378,8 @@ step-port (Outgoing o) s t (next, leaving, outbox, running, requests, same) = sa
 step-port Sent s t (leaving, requests, outbox, running, same) = same.0.1
 step-port (NotSent errno) s t (leaving, requests, outbox, running, same) = same.0.1
 step-port (Receive group joined datagram) s t (whole, faulty, same) = same.0.1
-step-port (Fault errno) s t (requests, multicast, unasked, congested, names, parcels, awaited) = names.1
-step-port Quiet s t (requests, awaited, congested, names, parcels, readers) = names.1
+step-port (Fault errno) s t (requests, multicast, unasked, congested, names, mails, awaited) = names.1
+step-port Quiet s t (requests, awaited, congested, names, mails, readers) = names.1
 step-port (PassAnswer p) s t (own, others, multicast, unasked, same) = same.0.1
 step-port PassMulticast s t (multicast, requests, unasked, same) = same.0.1
 step-port PassUnasked s t (unasked, requests, multicast, same) = same.0.1
@@ -393,8 +393,8 @@ step-protocol (Outgoing o) s t (next, leaving, outbox, running, requests, same) 
 step-protocol Sent s t (leaving, requests, outbox, running, same) = same.0.0
 step-protocol (NotSent errno) s t (leaving, requests, outbox, running, same) = same.0.0
 step-protocol (Receive group joined datagram) s t (whole, faulty, same) = same.0.0
-step-protocol (Fault errno) s t (requests, multicast, unasked, congested, names, parcels, awaited) = names.0
-step-protocol Quiet s t (requests, awaited, congested, names, parcels, readers) = names.0
+step-protocol (Fault errno) s t (requests, multicast, unasked, congested, names, mails, awaited) = names.0
+step-protocol Quiet s t (requests, awaited, congested, names, mails, readers) = names.0
 step-protocol (PassAnswer p) s t (own, others, multicast, unasked, same) = same.0.0
 step-protocol PassMulticast s t (multicast, requests, unasked, same) = same.0.0
 step-protocol PassUnasked s t (unasked, requests, multicast, same) = same.0.0

@@ -16,3 +16,4 @@ mod Turns
 mod Verdicts
 pub mod Lines
 pub mod Readiness
+pub mod Free

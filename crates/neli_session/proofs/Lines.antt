@@ -113,7 +113,7 @@ pub row-walk : (links : List (ℕ × Link)) (first last : Option ℕ) (ns : List
     → walk links (length links) first ≡ ns
 row-walk links first last ns line =
     let fits : length ns ≤ length links = length-le_from_keys nat_eq_equiv ns links (distinct ns line.apart)
-        (λ q e. some (link_of q links) (placed links None ns q line.linked (sym (is_in-any q ns) ∙ e))) in
+    (λ q e. some (link_of q links) (placed links None ns q line.linked (sym (is_in-any q ns) ∙ e))) in
     ap (λ (o : Option ℕ). walk links (length links) o) line.first_is ∙ walk_linked links None ns (length links) line.linked fits
 
 -- ---- the same links
@@ -121,9 +121,10 @@ row-walk links first last ns line =
 pub same-linked : (links ks : List (ℕ × Link)) (before : Option ℕ) (ns : List ℕ)
     → ((q : ℕ) → is_in q ns ≡ true → link_of q ks ≡ link_of q links) → AreLinked links before ns → AreLinked ks before ns
 same-linked links ks before [] same linked = tt
-same-linked links ks before (n ∷ ns) same linked =
-    (same n (ap (λ (b : Bool). b || is_in n ns) (itself n)) ∙ linked.0,
-    same-linked links ks (Some n) ns (λ q e. same q (either (n == q) (is_in q ns) e)) linked.1)
+same-linked links ks before (n ∷ ns) same linked = (
+  same n (ap (λ (b : Bool). b || is_in n ns) (itself n)) ∙ linked.0,
+  same-linked links ks (Some n) ns (λ q e. same q (either (n == q) (is_in q ns) e)) linked.1,
+)
   where
     either : (a b : Bool) → b ≡ true → (a || b) ≡ true
     either true b e = refl
@@ -166,15 +167,17 @@ linked-more : (links ks : List (ℕ × Link)) (before : Option ℕ) (ns : List �
     → AreLinked ks before (ns ++ n ∷ [])
 linked-more links ks before [] n linked apart out step own = (own, tt)
 linked-more links ks before (m ∷ []) n linked apart out step own = (
-    step m (ap (λ (b : Bool). b || false) (itself m)) ∙ ap (λ (o : Option Link). link_at m (with_after (Some n)) m o) linked.0
-    ∙ ap (λ (b : Bool). if b then Some (record { before = before; after = Some n }) else Some (record { before = before; after = None })) (itself m),
-    (own, tt))
+  step m (ap (λ (b : Bool). b || false) (itself m)) ∙ ap (λ (o : Option Link). link_at m (with_after (Some n)) m o) linked.0
+      ∙ ap (λ (b : Bool). if b then Some (record { before = before; after = Some n }) else Some (record { before = before; after = None })) (itself m),
+  (own, tt),
+)
 linked-more links ks before (m ∷ k ∷ ns) n linked apart out step own = (
-    step m (ap (λ (b : Bool). b || is_in m (k ∷ ns)) (itself m))
-    ∙ ap (λ (o : Option Link). link_if (last_after (Some k) ns) (with_after (Some n)) m o) linked.0
-    ∙ not-last k ns m (with_after (Some n)) _ apart.0,
-    linked-more links ks (Some m) (k ∷ ns) n linked.1 apart.1 (neither (m == n) (is_in n (k ∷ ns)) out).1
-    (λ q e. step q (behind m q (k ∷ ns) e)) own)
+  step m (ap (λ (b : Bool). b || is_in m (k ∷ ns)) (itself m))
+      ∙ ap (λ (o : Option Link). link_if (last_after (Some k) ns) (with_after (Some n)) m o) linked.0
+      ∙ not-last k ns m (with_after (Some n)) _ apart.0,
+  linked-more links ks (Some m) (k ∷ ns) n linked.1 apart.1 (neither (m == n) (is_in n (k ∷ ns)) out).1
+      (λ q e. step q (behind m q (k ∷ ns) e)) own,
+)
 
 any-last : (m : ℕ) (ns : List ℕ) (o f : Option ℕ) → end_with (last_after (Some m) ns) o f ≡ f
 any-last m [] o f = refl
@@ -191,9 +194,11 @@ more-last o (m ∷ ns) n = more-last (Some m) ns n
 more-apart : (ns : List ℕ) (n : ℕ) → AreApart ns → is_in n ns ≡ false → AreApart (ns ++ n ∷ [])
 more-apart [] n apart out = (refl, tt)
 more-apart (m ∷ ns) n apart out =
-    let parts = neither (m == n) (is_in n ns) out in
-    (in-both m ns (n ∷ []) ∙ ap (λ (b : Bool). b || ((n == m) || false)) apart.0
-    ∙ ap (λ (b : Bool). b || false) (other-way m n parts.0), more-apart ns n apart.1 parts.1)
+    let parts = neither (m == n) (is_in n ns) out in (
+      in-both m ns (n ∷ []) ∙ ap (λ (b : Bool). b || ((n == m) || false)) apart.0
+          ∙ ap (λ (b : Bool). b || false) (other-way m n parts.0),
+      more-apart ns n apart.1 parts.1,
+    )
 
 no-last : (ns : List ℕ) (q : ℕ) (f : Link → Link) (o : Option Link) → is_in q ns ≡ false → link_if (last_in ns) f q o ≡ o
 no-last [] q f o out = refl
@@ -288,11 +293,12 @@ module _ (links ks : List (ℕ × Link)) (n : ℕ) where
   from-next before [] linked apart other step = tt
   from-next before (y ∷ ys) linked apart other step =
       let here : is_in y (y ∷ ys) ≡ true = ap (λ (b : Bool). b || is_in y ys) (itself y) in (
-      step y here ∙ ap (λ (o : Option Link). link_at y (with_before before) y (link_if before (with_after (Some y)) y o)) linked.0
-      ∙ ap (λ (o : Option Link). link_at y (with_before before) y o) (other y (with_after (Some y)) _ here)
-      ∙ ap (λ (b : Bool). if b then Some (record { before = before; after = first_in ys }) else Some (record { before = Some n; after = first_in ys })) (itself y),
-      same-linked links ks (Some y) ys (λ q e. step q (behind y q ys e)
-      ∙ not-at y q (with_before before) _ (differ y q ys apart.0 e) ∙ other q (with_after (Some y)) _ (behind y q ys e)) linked.1)
+        step y here ∙ ap (λ (o : Option Link). link_at y (with_before before) y (link_if before (with_after (Some y)) y o)) linked.0
+            ∙ ap (λ (o : Option Link). link_at y (with_before before) y o) (other y (with_after (Some y)) _ here)
+            ∙ ap (λ (b : Bool). if b then Some (record { before = before; after = first_in ys }) else Some (record { before = Some n; after = first_in ys })) (itself y),
+        same-linked links ks (Some y) ys (λ q e. step q (behind y q ys e)
+            ∙ not-at y q (with_before before) _ (differ y q ys apart.0 e) ∙ other q (with_after (Some y)) _ (behind y q ys e)) linked.1,
+      )
 
 module _ (links ks : List (ℕ × Link)) (n : ℕ) (ys : List ℕ) where
   linked-less : (before : Option ℕ) (ps : List ℕ) → AreLinked links before (ps ++ n ∷ ys) → AreApart (ps ++ n ∷ ys)
@@ -304,22 +310,24 @@ module _ (links ks : List (ℕ × Link)) (n : ℕ) (ys : List ℕ) where
   linked-less before [] linked apart other step = from-next links ks n before ys linked.1 apart.1 other step
   linked-less before (p ∷ []) linked apart other step =
       let out = not-in-either p [] (n ∷ ys) apart.0 in (
-      step p (ap (λ (b : Bool). b || is_in p ys) (itself p))
-      ∙ ap (λ (o : Option Link). link_if (first_in ys) (with_before (Some p)) p (link_at p (with_after (first_in ys)) p o)) linked.0
-      ∙ no-first ys p (with_before (Some p)) _ (neither (n == p) (is_in p ys) out.1).1
-      ∙ ap (λ (b : Bool). if b then Some (record { before = before; after = first_in ys }) else Some (record { before = before; after = Some n })) (itself p),
-      linked-less (Some p) [] linked.1 apart.1 (λ q f o e. not-at p q f o (differ p q (n ∷ ys) apart.0 (behind n q ys e)))
-      (λ q e. step q (behind p q ys e)))
+        step p (ap (λ (b : Bool). b || is_in p ys) (itself p))
+            ∙ ap (λ (o : Option Link). link_if (first_in ys) (with_before (Some p)) p (link_at p (with_after (first_in ys)) p o)) linked.0
+            ∙ no-first ys p (with_before (Some p)) _ (neither (n == p) (is_in p ys) out.1).1
+            ∙ ap (λ (b : Bool). if b then Some (record { before = before; after = first_in ys }) else Some (record { before = before; after = Some n })) (itself p),
+        linked-less (Some p) [] linked.1 apart.1 (λ q f o e. not-at p q f o (differ p q (n ∷ ys) apart.0 (behind n q ys e)))
+            (λ q e. step q (behind p q ys e)),
+      )
   linked-less before (p ∷ k ∷ ps) linked apart other step =
       let out = not-in-either p (k ∷ ps) (n ∷ ys) apart.0 in (
-      step p (ap (λ (b : Bool). b || is_in p (k ∷ ps ++ ys)) (itself p))
-      ∙ ap (λ (o : Option Link). link_if (first_in ys) (with_before (last_after (Some k) ps)) p
-      (link_if (last_after (Some k) ps) (with_after (first_in ys)) p o)) linked.0
-      ∙ no-first ys p (with_before (last_after (Some k) ps)) _ (neither (n == p) (is_in p ys) out.1).1
-      ∙ not-last k ps p (with_after (first_in ys)) _ out.0,
-      linked-less (Some p) (k ∷ ps) linked.1 apart.1
-      (λ q f o e. not-at p q f o (differ p q (k ∷ ps ++ n ∷ ys) apart.0 (one-between q (k ∷ ps) n ys e)))
-      (λ q e. step q (behind p q (k ∷ ps ++ ys) e)))
+        step p (ap (λ (b : Bool). b || is_in p (k ∷ ps ++ ys)) (itself p))
+            ∙ ap (λ (o : Option Link). link_if (first_in ys) (with_before (last_after (Some k) ps)) p
+            (link_if (last_after (Some k) ps) (with_after (first_in ys)) p o)) linked.0
+            ∙ no-first ys p (with_before (last_after (Some k) ps)) _ (neither (n == p) (is_in p ys) out.1).1
+            ∙ not-last k ps p (with_after (first_in ys)) _ out.0,
+        linked-less (Some p) (k ∷ ps) linked.1 apart.1
+            (λ q f o e. not-at p q f o (differ p q (k ∷ ps ++ n ∷ ys) apart.0 (one-between q (k ∷ ps) n ys e)))
+            (λ q e. step q (behind p q (k ∷ ps ++ ys) e)),
+      )
 
 less-first : (ps : List ℕ) (n : ℕ) (ys : List ℕ)
     → end_with (last_in ps) (first_in ys) (first_in (ps ++ n ∷ ys)) ≡ first_in (ps ++ ys)

@@ -452,13 +452,13 @@ module _ (s t : Session) (q : ℕ) (r : Request) (b : Bool) (sound : IsSoundSess
       track-more (at t.requests q) (after_happenings (happens s.protocol s.port q
       (Receive group joined datagram)) r) b false
       (track-received group joined datagram is)
-  track-step (Fault errno) (requests, multicast, unasked, congested, names, parcels, awaited) other =
+  track-step (Fault errno) (requests, multicast, unasked, congested, names, mails, awaited) other =
       track-more (at t.requests q) (changed (change.Lose (loss.Link errno)) r) b false
       (now (among s.awaited.items (when (change.Lose (loss.Link errno))) q (at s.requests q))
       (changed (change.Lose (loss.Link errno)) r) (requests q)
       (track-among (change.Lose (loss.Link errno)) q s.awaited.items (at s.requests q) r b was
       (λ out. lost-over (loss.Link errno) r (over-else out))))
-  track-step Quiet (requests, awaited, congested, names, parcels, readers) other =
+  track-step Quiet (requests, awaited, congested, names, mails, readers) other =
       track-more (at t.requests q) (after_happenings (if_so (answers_at_once s.protocol) (Changed change.Settle)) r) b
       false (go (answers_at_once s.protocol) (requests q))
     where

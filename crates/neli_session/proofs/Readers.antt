@@ -83,9 +83,9 @@ multicast-step (Receive group joined datagram) s t xs is was open_is =
     more xs s.multicast t.multicast was
     (heard_of s.port group joined (messages_of datagram) ++ rest_lost datagram)
     (received group joined datagram s t is).0
-multicast-step (Fault errno) s t xs (requests, multicast, unasked, congested, names, parcels, awaited) was open_is =
+multicast-step (Fault errno) s t xs (requests, multicast, unasked, congested, names, mails, awaited) was open_is =
     more xs s.multicast t.multicast was (Err (loss.Link errno) ∷ []) multicast
-multicast-step Quiet s t xs (requests, awaited, congested, names, parcels, readers) was open_is =
+multicast-step Quiet s t xs (requests, awaited, congested, names, mails, readers) was open_is =
     stays xs s.multicast t.multicast was readers.0
 multicast-step (PassAnswer p) s t xs (own, others, multicast, unasked, same) was open_is =
     stays xs s.multicast t.multicast was multicast
@@ -110,9 +110,9 @@ unasked-step (Receive group joined datagram) s t xs is was =
     more xs s.unasked t.unasked was
     (unasked_of s.port group (at s.requests) (messages_of datagram) ++ rest_lost datagram)
     (received group joined datagram s t is).1
-unasked-step (Fault errno) s t xs (requests, multicast, unasked, congested, names, parcels, awaited) was =
+unasked-step (Fault errno) s t xs (requests, multicast, unasked, congested, names, mails, awaited) was =
     more xs s.unasked t.unasked was (Err (loss.Link errno) ∷ []) unasked
-unasked-step Quiet s t xs (requests, awaited, congested, names, parcels, readers) was =
+unasked-step Quiet s t xs (requests, awaited, congested, names, mails, readers) was =
     stays xs s.unasked t.unasked was readers.1
 unasked-step (PassAnswer p) s t xs (own, others, multicast, unasked, same) was =
     stays xs s.unasked t.unasked was unasked

@@ -92,10 +92,10 @@ turn-step dump (NotSent errno) s t (leaving, requests, outbox, running, same) =
     rw outbox (append-nil (those dump s.outbox.items))
 turn-step dump (Receive group joined datagram) s t (whole, faulty, same) =
     rw same.1.0 (append-nil (those dump s.outbox.items))
-turn-step dump (Fault errno) s t (requests, multicast, unasked, congested, names, parcels, awaited) =
-    rw parcels.0 (append-nil (those dump s.outbox.items))
-turn-step dump Quiet s t (requests, awaited, congested, names, parcels, readers) =
-    rw parcels.0 (append-nil (those dump s.outbox.items))
+turn-step dump (Fault errno) s t (requests, multicast, unasked, congested, names, mails, awaited) =
+    rw mails.0 (append-nil (those dump s.outbox.items))
+turn-step dump Quiet s t (requests, awaited, congested, names, mails, readers) =
+    rw mails.0 (append-nil (those dump s.outbox.items))
 turn-step dump (PassAnswer p) s t (own, others, multicast, unasked, same) =
     rw same.1.0 (append-nil (those dump s.outbox.items))
 turn-step dump PassMulticast s t (multicast, requests, unasked, same) =

@@ -20,7 +20,7 @@ use Rattle.neli_session.specs.Messages.{IsWhole, messages_of}
 use Rattle.neli_session.specs.Requests.{first_item, is_over, next_item}
 use Rattle.neli_session.specs.Mails.{Mail, answering_by, answers_at_once, entries_of, mail_of, numbers_in, on_its_way}
 use Rattle.neli_session.specs.Mails.{running_with, still_waiting}
-use Rattle.neli_session.specs.Sends.{IsQueued, NothingQueued, SameNames, SameParcels, SameReaders, SameSending}
+use Rattle.neli_session.specs.Sends.{IsQueued, NothingQueued, SameNames, SameMails, SameReaders, SameSending}
 use Rattle.neli_session.specs.Sends.{ends_now, is_idle, is_running, next_of, runs_now}
 use Rattle.neli_session.specs.Sessions.{HaveCome, HaveComeBeforeLoss, among, at, closed_at, gains, heard_of, kept_queue}
 use Rattle.neli_session.specs.Sessions.{passed_at, queued, unasked_of, when, without_first}
@@ -99,7 +99,7 @@ IsLost errno old new =
     × (new.multicast ≡ gains (Err (loss.Link errno) ∷ []) old.multicast)
     × (new.unasked ≡ gains (Err (loss.Link errno) ∷ []) old.unasked)
     × (new.is_congested ≡ (int_eq errno (pos 105) || old.is_congested))
-    × SameNames old new × SameParcels old new × (new.awaited ≡ old.awaited)
+    × SameNames old new × SameMails old new × (new.awaited ≡ old.awaited)
 
 -- the link was seen empty
 abbrev pub IsQuiet : Session → Session → Type 0
@@ -107,7 +107,7 @@ IsQuiet old new =
     ((q : ℕ) → at new.requests q ≡ among (ends_now old) (when change.Settle) q (at old.requests q))
     × (new.awaited.items ≡ (if answers_at_once old.protocol && is_idle old then [] else old.awaited.items))
     × (new.is_congested ≡ false)
-    × SameNames old new × SameParcels old new × SameReaders old new
+    × SameNames old new × SameMails old new × SameReaders old new
 
 -- this happened to one request, and nothing to the others
 abbrev pub IsOfOne : ℕ → (Option Request → Option Request) → Session → Session → Type 0

@@ -2,11 +2,11 @@
 use Rattle.std.specs.Prelude.{ℕ, Bool, true, false, not, ◌&&◌, if◌then◌else◌, List, [], ◌∷◌, length, map}
 use Rattle.std.specs.Prelude.{◌+◌, Option, Some, None, Ok, bit_or, is_some}
 use Rattle.neli_answers.specs.Answers.{answering_of, has_all}
+pub use Rattle.neli_answers.specs.Times.{answers_at_once}
 use Rattle.neli_answers.specs.declared.answering.Answering.{Answering}
 use Rattle.neli_answers.specs.declared.answering.Answering.TheVariants as answered
 use Rattle.neli_consts.specs.declared.nlm_f.NlmF.{NlmF}
 use Rattle.neli_consts_system.specs.declared.socket.NlFamily.{NlFamily}
-use Rattle.neli_consts_system.specs.declared.socket.NlFamily.TheVariants as family
 use Rattle.neli_lent.specs.Messages.{Lent}
 use Rattle.neli_reader.specs.Builders.{header_with}
 use Rattle.neli_reader.specs.Headers.{flags_of}
@@ -54,20 +54,6 @@ dumps_of (e ∷ es) = if is_dump e.answering then e.number ∷ dumps_of es else 
 abbrev pub first_of : List ℕ → Option ℕ
 first_of [] = None
 first_of (n ∷ ns) = Some n
-
--- ---- when answers come
-
--- the kernel answers a request of this protocol while it is sent, or goes on with its dump whenever the socket is received
--- from: rtnetlink_rcv, genl_rcv, nfnetlink_rcv, sock_diag_rcv, xfrm_netlink_rcv and cn_rx_skb run within sendmsg. Others
--- may answer later, as audit by a thread of its own (audit_send_reply_thread), or another process
-abbrev pub answers_at_once : NlFamily → Bool
-answers_at_once family.Route = true
-answers_at_once family.Generic = true
-answers_at_once family.Netfilter = true
-answers_at_once family.SockOrInetDiag = true
-answers_at_once family.Xfrm = true
-answers_at_once family.Connector = true
-answers_at_once protocol = false
 
 -- ---- the bytes of a request
 

@@ -1,5 +1,5 @@
 -- What is sent: requests more, and what a session's calls change of it.
-use Rattle.std.specs.Prelude.{◌≡◌, ◌≢◌, ◌≤◌, ◌<◌, ⊤, ℕ, Bool, true, false, not, ◌&&◌, ◌==◌, if◌then◌else◌, List, [], ◌∷◌, ◌++◌}
+use Rattle.std.specs.Prelude.{◌≡◌, ◌≢◌, ◌≤◌, ◌<◌, ◌+◌, ◌%◌, ⊤, ℕ, Bool, true, false, not, ◌&&◌, ◌==◌, if◌then◌else◌, List, [], ◌∷◌, ◌++◌}
 use Rattle.std.specs.Prelude.{length, Option, Some, None, Ok, is_some}
 use Rattle.neli_consts.specs.declared.nlm_f.NlmF.{NlmF}
 use Rattle.neli_session.specs.declared.entry.Entry.{Entry}
@@ -8,7 +8,7 @@ use Rattle.neli_session.specs.declared.sending.SendError.{SendError}
 use Rattle.neli_session.specs.declared.sending.SendError.TheVariants as refused
 use Rattle.neli_session.specs.declared.session.Session.{Session}
 use Rattle.neli_session.specs.Mails.{Mail, answers_at_once, dumps_of, entries_of, is_dump, is_none_waiting, mail_of, next_out, numbers_of}
-use Rattle.neli_session.specs.Mails.{request_wire}
+use Rattle.neli_session.specs.Mails.{request_length, request_wire}
 use Rattle.neli_session.specs.Messages.{IsWhole}
 use Rattle.neli_session.specs.Requests.{is_awaited}
 use Rattle.neli_session.specs.Sessions.{at, queued}
@@ -36,6 +36,19 @@ first_taken requests (e ∷ es) =
     if is_some (requests e.number) then Some e.number
     else first_taken (λ q. with_entry e q (requests q)) es
 
+-- ---- which numbers are free
+
+-- the number that comes so many after this one, in 32 bits
+abbrev pub number_after : ℕ → ℕ → ℕ
+number_after start k = (start + k) % 4294967296
+
+-- the first number that is free, from this one on; or none is free
+abbrev pub IsFirstFree : (ℕ → Option Request) → ℕ → Option ℕ → Type 0
+IsFirstFree requests start (Some n) =
+    (k : ℕ) × (n ≡ number_after start k) × (requests n ≡ None)
+    × ((j : ℕ) → j < k → is_some (requests (number_after start j)) ≡ true)
+IsFirstFree requests start None = (q : ℕ) → q < 4294967296 → is_some (requests q) ≡ true
+
 -- ---- the dump that runs
 
 -- this request is answered by a dump, and is awaited
@@ -56,14 +69,14 @@ SameNames old new =
     (new.protocol ≡ old.protocol) × (new.port ≡ old.port) × (new.next_number ≡ old.next_number)
 
 -- so is what is to be sent, what is on its way, and the dump that went out last
-abbrev pub SameParcels : Session → Session → Type 0
-SameParcels old new =
+abbrev pub SameMails : Session → Session → Type 0
+SameMails old new =
     (new.outbox ≡ old.outbox) × (new.leaving ≡ old.leaving) × (new.running ≡ old.running)
 
 -- so is all that a session sends or has sent: its requests and readers may be others
 abbrev pub SameSending : Session → Session → Type 0
 SameSending old new =
-    SameNames old new × SameParcels old new × (new.awaited ≡ old.awaited) × (new.is_congested ≡ old.is_congested)
+    SameNames old new × SameMails old new × (new.awaited ≡ old.awaited) × (new.is_congested ≡ old.is_congested)
 
 -- so is what waits for multicast and the unasked
 abbrev pub SameReaders : Session → Session → Type 0
@@ -92,12 +105,22 @@ RefusesSend bytes es old (refused.InUse n) = first_taken (at old.requests) es �
 RefusesSend bytes es old refused.Memory = ⊤
 RefusesSend bytes es old e = true ≡ false
 
--- a request was sent with this number, which was free
+-- a request was sent with this number, the first that was free
 abbrev pub IsRequested : ℕ → NlmF → List ℕ → ℕ → Session → Session → Type 0
 IsRequested type flags body number old new =
-    (at old.requests number ≡ None) × (bytes : List ℕ)
+    (at old.requests number ≡ None) × IsFirstFree (at old.requests) old.next_number (Some number) × (bytes : List ℕ)
     × (request_wire old.port number type flags body ≡ Ok bytes)
     × IsQueued bytes (entries_of old.protocol None bytes) old new
+
+-- why no request of this type, with these flags and this body, was sent: no number is free; its length exceeds 32 bits; or
+-- the first free number was taken, and its bytes were refused
+abbrev pub RefusesRequest : ℕ → NlmF → List ℕ → Session → SendError → Type 0
+RefusesRequest type flags body old refused.NoNumber = IsFirstFree (at old.requests) old.next_number None
+RefusesRequest type flags body old refused.Length = 4294967295 < request_length body
+RefusesRequest type flags body old refused.Memory = ⊤
+RefusesRequest type flags body old e =
+    (n : ℕ) × (bytes : List ℕ) × IsFirstFree (at old.requests) old.next_number (Some n)
+    × (request_wire old.port n type flags body ≡ Ok bytes) × RefusesSend bytes (entries_of old.protocol None bytes) old e
 
 -- nothing was sent
 abbrev pub NothingQueued : Session → Session → Type 0

@@ -10,7 +10,7 @@ use std::marker::Model;
 
 /// A datagram to send.
 #[derive(Drop)]
-pub(crate) struct Parcel {
+pub(crate) struct Mail {
     bytes: Vec<u8>,
     /// The sequence numbers of its requests.
     numbers: Vec<u32>,
@@ -18,7 +18,7 @@ pub(crate) struct Parcel {
     dump: Option<u32>,
 }
 
-impl Model for Parcel {
+impl Model for Mail {
     ghost use Rattle.neli_session.specs.Mails.{Mail};
 
     ghost Value = { Mail };
@@ -26,14 +26,14 @@ impl Model for Parcel {
     ghost view = { λ p. record { bytes = p.bytes.items; numbers = p.numbers.items; dump = p.dump } };
 }
 
-impl Parcel {
+impl Mail {
     /// The datagram with these bytes, which has these requests, and of them this dump.
     pub(crate) fn new(
         alloc: Global,
         requests: &[u8],
         entries: &[Entry],
         dump: Option<u32>,
-    ) -> Result<Parcel, NoMemory>
+    ) -> Result<Mail, NoMemory>
         ensures bytes { IfOk result (λ p. p.bytes ≡ requests.now) }
         ensures numbers { IfOk result (λ p. p.numbers ≡ numbers_of entries.now) }
         ensures dump { IfOk result (λ p. p.dump ≡ dump) }
@@ -41,7 +41,7 @@ impl Parcel {
         let mut bytes = Vec::new(alloc);
         bytes.extend_from_slice(requests)?;
         let numbers = numbers(alloc, entries)?;
-        Ok(Parcel {
+        Ok(Mail {
             bytes,
             numbers,
             dump,
@@ -79,18 +79,18 @@ impl Parcel {
 
 /// Appends a datagram, and its numbers to those that are awaited. Refused only if memory runs out; then nothing changes.
 pub(crate) fn post(
-    parcels: &mut Vec<Parcel>,
+    mails: &mut Vec<Mail>,
     awaited: &mut Vec<u32>,
-    parcel: Parcel,
+    mail: Mail,
 ) -> Result<(), NoMemory>
-    ensures parcels { OnOk result (parcels.new.items ≡ parcels.old.items ++ parcel ∷ []) }
-    ensures awaited { OnOk result (awaited.new.items ≡ awaited.old.items ++ parcel.numbers) }
-    ensures unchanged { OnErr result ((parcels.new.items ≡ parcels.old.items)
+    ensures mails { OnOk result (mails.new.items ≡ mails.old.items ++ mail ∷ []) }
+    ensures awaited { OnOk result (awaited.new.items ≡ awaited.old.items ++ mail.numbers) }
+    ensures unchanged { OnErr result ((mails.new.items ≡ mails.old.items)
         × (awaited.new.items ≡ awaited.old.items)) }
 {
     let count = awaited.len();
-    awaited.extend_from_slice(parcel.numbers())?;
-    if parcels.push(parcel).is_err() {
+    awaited.extend_from_slice(mail.numbers())?;
+    if mails.push(mail).is_err() {
         awaited.truncate(count);
         return Err(NoMemory);
     }
@@ -98,28 +98,28 @@ pub(crate) fn post(
 }
 
 /// Takes the last datagram back, whose numbers these many are the last ones of those that are awaited.
-pub(crate) fn unpost(parcels: &mut Vec<Parcel>, awaited: &mut Vec<u32>, count: usize)
+pub(crate) fn unpost(mails: &mut Vec<Mail>, awaited: &mut Vec<u32>, count: usize)
     requires { count ≤ length awaited.old.items }
-    ensures parcels { (before : List Mail) (last : Mail) → parcels.old.items ≡ before ++ last ∷ []
-        → parcels.new.items ≡ before }
+    ensures mails { (before : List Mail) (last : Mail) → mails.old.items ≡ before ++ last ∷ []
+        → mails.new.items ≡ before }
     ensures awaited { (before last : List ℕ) → awaited.old.items ≡ before ++ last
         → length last ≡ count → awaited.new.items ≡ before }
 {
-    let _ = parcels.pop();
+    let _ = mails.pop();
     let left = awaited.len() - count;
     awaited.truncate(left);
 }
 
 /// Takes out the first that may go out while a dump runs, or none does.
-pub(crate) fn take_next(parcels: &mut Vec<Parcel>, runs: bool) -> Option<Parcel>
-    ensures next { result ≡ next_mail runs parcels.old.items }
-    ensures others { parcels.new.items ≡ without_next runs parcels.old.items }
-    ensures none { IsNone result → parcels.new ≡ parcels.old }
+pub(crate) fn take_next(mails: &mut Vec<Mail>, runs: bool) -> Option<Mail>
+    ensures next { result ≡ next_mail runs mails.old.items }
+    ensures others { mails.new.items ≡ without_next runs mails.old.items }
+    ensures none { IsNone result → mails.new ≡ mails.old }
 {
     let mut place = 0;
-    while place < parcels.len() {
-        if parcels[place].may_go(runs) {
-            return Some(parcels.remove(place));
+    while place < mails.len() {
+        if mails[place].may_go(runs) {
+            return Some(mails.remove(place));
         }
         place += 1;
     }

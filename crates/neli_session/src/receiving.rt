@@ -6,7 +6,7 @@ ghost use Rattle.neli_wire.specs.declared.errors.DeError.{DeError};
 ghost use Rattle.neli_lent.specs.Messages.{messages_in};
 ghost use Rattle.neli_session.specs.Messages.{IsWhole, messages_of};
 ghost use Rattle.neli_session.specs.Readiness.{line_after_all, line_among, line_received};
-ghost use Rattle.neli_session.specs.Sends.{SameNames, SameParcels, SameSending};
+ghost use Rattle.neli_session.specs.Sends.{SameNames, SameMails, SameSending};
 ghost use Rattle.neli_session.specs.Sessions.{HaveCome, HaveComeBeforeLoss, among, at, gains, when};
 
 use crate::change::Change;
@@ -100,7 +100,7 @@ impl Session {
         ensures congested { OnOk result
             (self.new.is_congested ≡ (int_eq errno (pos 105) || self.old.is_congested)) }
         ensures names { SameNames self.old self.new }
-        ensures parcels { SameParcels self.old self.new }
+        ensures mails { SameMails self.old self.new }
         ensures awaited { self.new.awaited ≡ self.old.awaited }
         ensures unchanged { OnErr result ((self.new.requests ≡ self.old.requests)
             × (self.new.multicast ≡ self.old.multicast) × (self.new.unasked ≡ self.old.unasked)

@@ -6,19 +6,18 @@ ghost use Rattle.neli_session.specs.Readiness.{line_among};
 ghost use Rattle.neli_session.specs.Sessions.{among, at, when};
 ghost use Rattle.neli_session.specs.Mails.{answers_at_once, dumps_of, entries_of, first_of, numbers_in, on_its_way, request_length};
 ghost use Rattle.neli_session.specs.Mails.{running_with, still_waiting};
-ghost use Rattle.neli_session.specs.Sends.{Adds, IsQueued, IsRequested, NothingQueued, RefusesSend, SameBesides};
-ghost use Rattle.neli_session.specs.Sends.{SameNames, SameParcels, SameReaders, ends_now, is_idle, next_of, runs_now};
+ghost use Rattle.neli_session.specs.Sends.{Adds, IsFirstFree, IsQueued, IsRequested, NothingQueued, RefusesRequest, RefusesSend, SameBesides};
+ghost use Rattle.neli_session.specs.Sends.{SameNames, SameMails, SameReaders, ends_now, is_idle, next_of, number_after, runs_now};
 ghost use Rattle.neli_session.specs.Words.{send_text};
 
 use crate::Session;
 use crate::change::Change;
 use crate::entry::{Entry, dump_in, entries_in};
 use crate::frame::frame;
-use crate::outbox::{Parcel, post, take_next, unpost};
+use crate::outbox::{Mail, post, take_next, unpost};
 use crate::requests::Unadded;
-use neli_answers::Answering;
+use neli_answers::{Answering, answers_at_once};
 use neli_consts::NlmF;
-use neli_consts_system::NlFamily;
 use std::error::Error;
 use std::fmt;
 
@@ -58,22 +57,6 @@ impl fmt::Display for SendError {
 
 impl Error for SendError {}
 
-/// Whether the kernel answers a request of this protocol while it is sent, or goes on with its dump whenever the socket
-/// is received from.
-fn answers_at_once(protocol: NlFamily) -> bool
-    ensures { result ≡ answers_at_once protocol }
-{
-    matches!(
-        protocol,
-        NlFamily::Route
-            | NlFamily::Generic
-            | NlFamily::Netfilter
-            | NlFamily::SockOrInetDiag
-            | NlFamily::Xfrm
-            | NlFamily::Connector
-    )
-}
-
 impl Session {
     /// Whether a dump runs: the one that went out last is awaited.
     fn runs(&self) -> bool
@@ -102,10 +85,10 @@ impl Session {
         ensures line { self.new.requests.line ≡ self.old.requests.line }
         ensures rest { SameBesides self.old self.new }
     {
-        let Ok(parcel) = Parcel::new(self.alloc, requests, entries, dump) else {
+        let Ok(mail) = Mail::new(self.alloc, requests, entries, dump) else {
             return Err(SendError::Memory);
         };
-        if post(&mut self.outbox, &mut self.awaited, parcel).is_err() {
+        if post(&mut self.outbox, &mut self.awaited, mail).is_err() {
             return Err(SendError::Memory);
         }
         match self.requests.add_all(self.alloc, entries) {
@@ -171,6 +154,7 @@ impl Session {
         ensures sent { IfOk result
             (λ n. IsRequested nl_type flags body.now n self.old self.new) }
         ensures long { IsErrOf result SendError.Length → 4294967295 < request_length body.now }
+        ensures refused { IfErr result (RefusesRequest nl_type flags body.now self.old) }
         ensures unchanged { OnErr result (NothingQueued self.old self.new) }
         ensures line { self.new.requests.line ≡ self.old.requests.line }
         ensures readers { SameReaders self.old self.new }
@@ -233,14 +217,14 @@ impl Session {
             return false;
         }
         let runs = self.runs();
-        let Some(parcel) = take_next(&mut self.outbox, runs) else {
+        let Some(mail) = take_next(&mut self.outbox, runs) else {
             return false;
         };
-        if let Some(number) = parcel.dump() {
+        if let Some(number) = mail.dump() {
             self.running = Some(number);
         }
-        self.requests.change_all(parcel.numbers(), Change::Leave);
-        self.leaving = Some(parcel);
+        self.requests.change_all(mail.numbers(), Change::Leave);
+        self.leaving = Some(mail);
         true
     }
 
@@ -251,7 +235,7 @@ impl Session {
     {
         match &self.leaving {
             None => None,
-            Some(parcel) => Some(parcel.bytes()),
+            Some(mail) => Some(mail.bytes()),
         }
     }
 
@@ -270,8 +254,8 @@ impl Session {
         ensures readers { SameReaders self.old self.new }
         ensures congested { self.new.is_congested ≡ self.old.is_congested }
     {
-        if let Some(parcel) = self.leaving.take() {
-            self.requests.change_all(parcel.numbers(), by);
+        if let Some(mail) = self.leaving.take() {
+            self.requests.change_all(mail.numbers(), by);
         }
     }
 
@@ -326,7 +310,7 @@ impl Session {
             else self.old.awaited.items) }
         ensures congested { self.new.is_congested ≡ false }
         ensures names { SameNames self.old self.new }
-        ensures parcels { SameParcels self.old self.new }
+        ensures mails { SameMails self.old self.new }
         ensures readers { SameReaders self.old self.new }
     {
         self.is_congested = false;
@@ -340,17 +324,20 @@ impl Session {
     }
 
     /// Takes a sequence number that is not in use, the first from the one after that which was taken last, at first 0 or
-    /// as [`Session::set_number`] says; or none, if no number is free.
+    /// as [`Session::set_number`] says; or none, only if all numbers are in use.
     pub fn take_number(&mut self) -> Option<u32>
         ensures free { IfSome result (λ n. at self.old.requests n ≡ None) }
+        ensures first { IsFirstFree (at self.old.requests) self.old.next_number result }
+        ensures number { IfSome result (λ n. self.new.next_number ≡ number_after n 1) }
         ensures requests { self.new.requests ≡ self.old.requests }
         ensures readers { SameReaders self.old self.new }
-        ensures parcels { SameParcels self.old self.new }
+        ensures mails { SameMails self.old self.new }
         ensures awaited { self.new.awaited ≡ self.old.awaited }
         ensures congested { self.new.is_congested ≡ self.old.is_congested }
         ensures port { self.new.port ≡ self.old.port }
         ensures protocol { self.new.protocol ≡ self.old.protocol }
     {
+        let _first = self.next_number;
         let mut tries = 0;
         while tries <= self.requests.len() {
             let number = self.next_number;
@@ -368,7 +355,7 @@ impl Session {
         ensures number { self.new.next_number ≡ number }
         ensures requests { self.new.requests ≡ self.old.requests }
         ensures readers { SameReaders self.old self.new }
-        ensures parcels { SameParcels self.old self.new }
+        ensures mails { SameMails self.old self.new }
         ensures awaited { self.new.awaited ≡ self.old.awaited }
         ensures congested { self.new.is_congested ≡ self.old.is_congested }
         ensures port { self.new.port ≡ self.old.port }

@@ -9,7 +9,7 @@ ghost use Rattle.neli_session.specs.Sends.{SameSending};
 
 use crate::Loss;
 use crate::change::Change;
-use crate::outbox::Parcel;
+use crate::outbox::Mail;
 use crate::queue::Queue;
 use crate::requests::Requests;
 use neli_consts_system::NlFamily;
@@ -30,9 +30,9 @@ pub struct Session {
     /// The numbers of the requests that are queued or awaited, and maybe of others.
     pub(crate) awaited: Vec<u32>,
     /// The datagrams that wait to be sent.
-    pub(crate) outbox: Vec<Parcel>,
+    pub(crate) outbox: Vec<Mail>,
     /// The datagram that the link sends.
-    pub(crate) leaving: Option<Parcel>,
+    pub(crate) leaving: Option<Mail>,
     /// The number of the dump that went out last.
     pub(crate) running: Option<u32>,
     /// Whether the link has dropped something, and was not seen empty since.

@@ -72,7 +72,12 @@ fn a_dump_is_read_to_its_end(rt: HostRuntime) {
 
 /// Requests two dumps, and reads this datagram as the answer to the first, by whoever has something: the bytes of the
 /// payloads.
-fn read_ready(rt: &impl Abort, alloc: Global, port: u32, datagram: &[u8]) -> Result<usize, Refusal> {
+fn read_ready(
+    rt: &impl Abort,
+    alloc: Global,
+    port: u32,
+    datagram: &[u8],
+) -> Result<usize, Refusal> {
     let mut bytes = 0;
     let mut session = Session::new(alloc, NlFamily::Route, port, false);
     session.set_number(1012);

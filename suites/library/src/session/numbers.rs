@@ -3,8 +3,9 @@
 use super::script::Script;
 use super::script::Step::{Answer, Came, Close, InUse, Quiet, Refused, Sent, Stands, Unasked};
 use super::script::Told::{Closed, End, Message, Waits};
+use neli::consts::nl::NlmF;
 use neli::consts::socket::NlFamily;
-use neli::session::Verdict;
+use neli::session::{Session, Verdict};
 
 const PART: &str = "10000000100002000000000007000000";
 
@@ -124,3 +125,19 @@ pub const SCRIPTS: [Script; 6] = [
         ],
     ),
 ];
+
+/// Numbers are tried in order, in 32 bits: after the last comes 0.
+#[test]
+fn the_first_free_number_is_taken(rt: HostRuntime) {
+    let mut session = Session::new(rt.alloc(), NlFamily::Route, 7, false);
+    session.set_number(u32::MAX - 1);
+    for want in [u32::MAX - 1, u32::MAX, 0, 1] {
+        assert_eq!(rt; session.request(18, NlmF::empty(), &[0; 16]), Ok(want));
+    }
+    session.set_number(u32::MAX - 2);
+    for want in [u32::MAX - 2, 2] {
+        assert_eq!(rt; session.take_number(), Some(want));
+    }
+    session.set_number(u32::MAX);
+    assert_eq!(rt; session.request(18, NlmF::empty(), &[0; 16]), Ok(2));
+}

@@ -2,8 +2,8 @@
 
 use super::script::Script;
 use super::script::Step::{
-    Answer, Came, CameFor, Close, CloseMulticast, Failed, Fault, First, Goes, HasMulticast, HasUnasked, Heard,
-    Queued, Quiet, Sent, Unasked,
+    Answer, Came, CameFor, Close, CloseMulticast, Failed, Fault, First, Goes, HasMulticast,
+    HasUnasked, Heard, Queued, Quiet, Sent, Unasked,
 };
 use super::script::Told::{End, Lost, Message, Waits};
 use neli::consts::socket::NlFamily::Route;

@@ -9,12 +9,11 @@ pub returns-in-None-clause-order : goal.returns-in-None-clause-order
 returns-in-None-clause-order c =
     let links = c.self.inside.links.entries in
     let within : is_in c.args.number (walk links (length links) c.self.inside.first) ≡ true =
-        ap (λ (s : Standing). is_in c.args.number s.order) c.self.view_is ∙ c.requires in
+    ap (λ (s : Standing). is_in c.args.number s.order) c.self.view_is ∙ c.requires in
     let place : has_place c.args.number links ≡ true = placed links None _ c.args.number c.self.invariant.linked within in
     let none : false ≡ has_place c.args.number links = ap (λ (o : Option Link). is_some o) c.in-None.ensures.value in
     let wrong : false ≡ true = none ∙ place in
     cc
-
 
 left : (c : goal.After-set_before)
     → IsLine c.set_before.new.links.entries c.set_after.new.first c.set_before.new.last

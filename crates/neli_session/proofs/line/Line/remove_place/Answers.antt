@@ -8,7 +8,7 @@ kept : (c : goal.After-swap_remove)
     (walk c.self.inside.links.entries (length c.self.inside.links.entries) c.self.inside.first)
 kept c =
     let out : is_in c.args.number (walk c.self.inside.links.entries (length c.self.inside.links.entries) c.self.inside.first) ≡ false =
-        ap (λ (s : Standing). is_in c.args.number s.order) c.self.view_is ∙ c.requires in
+    ap (λ (s : Standing). is_in c.args.number s.order) c.self.view_is ∙ c.requires in
     same-line _ _ _ _ _ (λ q e. c.swap_remove.ensures.updates.2 q (differ c.args.number q _ out e)) c.self.invariant
 
 pub invariant_of-self : goal.invariant_of-self
