@@ -45,7 +45,13 @@ fn numbers_of_names(rt: HostRuntime) -> Result<(), Fail> {
         let code = number_of(&families, family, list, name, &mut number);
         let found = if code == ITEM { Some(number) } else { None };
         assert_eq!(rt; found, wanted, "of {name:?}");
-        assert_eq!(rt; (code, number), (if wanted.is_some() { ITEM } else { OK }, wanted.unwrap_or(4711)));
+        assert_eq!(rt;
+            (code, number),
+            (
+                if wanted.is_some() { ITEM } else { OK },
+                wanted.unwrap_or(4711)
+            )
+        );
     }
     Ok(())
 }
@@ -70,7 +76,11 @@ fn names_of_numbers(rt: HostRuntime) -> Result<(), Fail> {
         (b"tc", b"", 36, (OK, *b"????????", 4711)),
     ];
     for (family, list, number, wanted) in rows {
-        assert_eq!(rt; name(&families, family, list, number), wanted, "of {number}");
+        assert_eq!(rt;
+            name(&families, family, list, number),
+            wanted,
+            "of {number}"
+        );
     }
     Ok(())
 }
@@ -152,9 +162,20 @@ fn messages_have_fields(rt: HostRuntime) -> Result<(), Fail> {
         let (mut out, mut written, mut named) = ([0; 32], 0, no_item());
         let read = message(message_type, 0, length);
         let code = message_field(
-            &families, 0, &bytes, &read, index, &mut named, &mut out, &mut written,
+            &families,
+            0,
+            &bytes,
+            &read,
+            index,
+            &mut named,
+            &mut out,
+            &mut written,
         );
-        assert_eq!(rt; (code, &out[..written]), (wanted, text), "of {message_type}, {index}");
+        assert_eq!(rt;
+            (code, &out[..written]),
+            (wanted, text),
+            "of {message_type}, {index}"
+        );
         assert_eq!(rt; (named.payload, named.payload_length), (place, size));
         assert_eq!(rt; named.kind, if wanted == ITEM { 36 } else { 7 });
     }
@@ -169,7 +190,14 @@ fn a_body_may_be_too_short_for_its_structure(rt: HostRuntime) -> Result<(), Fail
         let (mut count, mut size) = (7, 8);
         let read = message(message_type, 0, length);
         let code = message_items(
-            &families, 0, &[0; 32], &read, &mut items, &mut count, &mut [], &mut size,
+            &families,
+            0,
+            &[0; 32],
+            &read,
+            &mut items,
+            &mut count,
+            &mut [],
+            &mut size,
         );
         let sizes = if wanted == OK { (0, 0) } else { (7, 8) };
         assert_eq!(rt; (code, count, size), (wanted, sizes.0, sizes.1));
