@@ -247,11 +247,13 @@ module _ (h : HandleState) (s : Session) where
     λ open_ none. absurd (listed open_ none),
     λ _ none. (refl, refl),
     λ open_ d ds some. absurd (empty open_ d ds some),
-    λ open_ d ds some. absurd (empty open_ d ds some),
-    λ w other. refl,
-    λ w other. refl,
-    refl,
-    refl,
+    record {
+      port = refl;
+      next_seq = refl;
+      missed = refl;
+      lists = λ w other. refl;
+      heard = λ w other. refl;
+    },
     refl,
   )
 
@@ -325,9 +327,9 @@ module _ (h : HandleState) (s t : Session) (u : Message) (us : List Message) whe
   pass-open g (Some (d ∷ ds)) is open_ some passes =
       let p = passes.3 open_ d ds is in
       let first = first-ahead (item_at h d) (messages_of (passed h d) (Some ds)) us u (sym (one-before h d ds open_) ∙ some) in
-      let number : g.number ≡ h.number = ap (λ (x : HandleState). x.number) p.1 in
-      ap (λ (x : HandleState). messages_of x (pending t g.number)) p.1
-      ∙ ap (messages_of (passed h d)) (ap (pending t) number ∙ p.0) ∙ first.1
+      let number : g.number ≡ h.number = ap (λ (x : HandleState). x.number) p.handle in
+      ap (λ (x : HandleState). messages_of x (pending t g.number)) p.handle
+      ∙ ap (messages_of (passed h d)) (ap (pending t) number ∙ p.waits) ∙ first.1
 
   pass-by : (g : HandleState) (b : Bool) → h.ended ≡ b → messages_of h (pending s h.number) ≡ u ∷ us
       → PassesHandle h g s t → messages_of g (pending t g.number) ≡ us

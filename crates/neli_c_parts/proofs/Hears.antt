@@ -4,11 +4,12 @@ use Rattle.std.proofs.Common.{Ok, Err, IfOk, OnErr, subst, ◌∙◌, inl, inr, 
 use Rattle.std.proofs.Common.{ℤ, slice_set}
 use Rattle.neli_deliveries.specs.declared.delivery.Delivery.{Delivery}
 use Rattle.neli_deliveries.specs.Readings.{IsReading, Item}
+use Rattle.neli_log.specs.Log.{pending_of}
 use Rattle.neli_router.specs.declared.handle.HandleState.{HandleState}
 use Rattle.neli_router.specs.declared.reply.Reply.{Reply}
 use Rattle.neli_router.specs.declared.reply.Reply.TheVariants as reply
-use Rattle.neli_router.specs.Rule.{has_number, item_of}
-use Rattle.neli_router.specs.Verdicts.{heard_of, heard_with, known_of, settled, verdict_by}
+use Rattle.neli_router.specs.Reads.{IsNextRead, known_after}
+use Rattle.neli_router.specs.Verdicts.{heard_of, known_of, settled, verdict_by}
 use Rattle.neli_c_parts.specs.declared.session.Session.{Session}
 use Rattle.neli_router.specs.GivenUp.{IsLeft, has_finished}
 use Rattle.neli_router.specs.declared.verdict.Heard.{Heard as Known}
@@ -23,29 +24,24 @@ use Rattle.neli_c_parts.proofs.Replies.{of-value}
 
 module _ {E : Type 0} (h after : HandleState) (s t : Session) where
   -- the result of next_typed for the first delivery
-  abbrev Heard : Result (Reply ℕ (List ℕ)) E → Delivery → Type 0
-  Heard r d =
-      IfOk r (λ answer. (given : Item ℕ (List ℕ)) × IsReading (λ n. n) (λ b. b) length (λ b. Ok b) d given
-      × (answer ≡ reply.Item (item_of (λ n. n) h.needs_ack (has_number h.number) h.single_given given))
-      × (heard_of t.router.heard h.number
-      ≡ option_map (heard_with (λ n. n) h.needs_ack (has_number h.number) h.single_given d given)
-      (heard_of s.router.heard h.number)))
+  abbrev Heard : Result (Reply ℕ (List ℕ)) E → Delivery → List Delivery → Type 0
+  Heard r d ds =
+      IfOk r (IsNextRead (λ n. n) (λ n. n) (λ b. b) length (λ b. Ok b) pending_of d ds h after s.router t.router
+      (λ x. reply.Item x))
 
-  first : (r : Result (Reply ℕ (List ℕ)) E) (d : Delivery) → Heard r d
+  first : (r : Result (Reply ℕ (List ℕ)) E) (d : Delivery) (ds : List Delivery) → Heard r d ds
       → OnErr r ((after ≡ h) × (t.router ≡ s.router))
       → (t.router ≡ s.router) ⊎ ((given : Item ℕ (List ℕ)) × IsReading (λ n. n) (λ b. b) length (λ b. Ok b) d given
-      × (heard_of t.router.heard h.number
-      ≡ option_map (heard_with (λ n. n) h.needs_ack (has_number h.number) h.single_given d given)
-      (heard_of s.router.heard h.number)))
-  first (Ok answer) d heard err = inr (heard.0, heard.1, heard.3)
-  first (Err e) d heard err = inl err.1
+      × (heard_of t.router.heard h.number ≡ known_after (λ n. n) h d given (heard_of s.router.heard h.number)))
+  first (Ok answer) d ds heard err = inr (heard.x, heard.is_read, heard.goes.heard)
+  first (Err e) d ds heard err = inl err.1
 
   pub hears : (r : Result (Reply ℕ (List ℕ)) E)
-      → (h.ended ≡ false → (d : Delivery) (ds : List Delivery) → pending s h.number ≡ Some (d ∷ ds) → Heard r d)
+      → (h.ended ≡ false → (d : Delivery) (ds : List Delivery) → pending s h.number ≡ Some (d ∷ ds) → Heard r d ds)
       → ((w : Option ℕ) → w ≢ h.number → heard_of t.router.heard w ≡ heard_of s.router.heard w)
       → (t.router.given_up ≡ s.router.given_up)
       → OnErr r ((after ≡ h) × (t.router ≡ s.router)) → HearsHandle h s t
-  hears r heard others left err = (λ e d ds p. first r d (heard e d ds p) err, others, left)
+  hears r heard others left err = (λ e d ds p. first r d ds (heard e d ds p) err, others, left)
 
 -- the verdict on the handle at a place
 pub tells : (code error : ℤ) (filtered k : ℕ) (s : Session) (x : HandleState) (out : NeliVerdict)

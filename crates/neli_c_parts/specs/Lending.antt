@@ -1,12 +1,13 @@
 -- Lent reads, in C's terms: the item of a handle where the router keeps it, and the step past it.
-use Rattle.std.specs.Prelude.{◌≡◌, ◌≢◌, ◌||◌, ℕ, ℤ, pos, true, false, List, [], ◌∷◌, length, Option, Some}
-use Rattle.std.specs.Prelude.{None, Ok, Err, IfSome, option_map, slice_set}
+use Rattle.std.specs.Prelude.{◌≡◌, ℕ, ℤ, pos, true, false, List, [], ◌∷◌, length, Some}
+use Rattle.std.specs.Prelude.{None, Ok, Err, IfSome, slice_set}
 use Rattle.neli_deliveries.specs.declared.delivery.Delivery.{Delivery}
 use Rattle.neli_deliveries.specs.Readings.{Item}
+use Rattle.neli_log.specs.Log.{pending_of}
 use Rattle.neli_lent.specs.declared.message.LentMessage.{LentMessage}
 use Rattle.neli_router.specs.Lending.{IsLentItem, LentItem, untyped}
-use Rattle.neli_router.specs.Rule.{ends_at, has_number, is_single, item_of}
-use Rattle.neli_router.specs.Verdicts.{heard_of, heard_with}
+use Rattle.neli_router.specs.Reads.{GoesPast, item_for}
+use Rattle.neli_router.specs.Same.{SameButHandle}
 use Rattle.neli_router.specs.declared.handle.HandleState.{HandleState}
 use Rattle.neli_router.specs.declared.lending.LentError.TheVariants as error
 use Rattle.neli_router.specs.declared.lending.LentReply.{LentReply}
@@ -65,7 +66,7 @@ LendsHandle code h s old new =
     × (h.ended ≡ false → pending s h.number ≡ None → (code ≡ no_handle) × (new ≡ old))
     × (h.ended ≡ false → pending s h.number ≡ Some [] → (code ≡ waits) × (new ≡ old))
     × (h.ended ≡ false → (d : Delivery) (ds : List Delivery) → pending s h.number ≡ Some (d ∷ ds)
-    → LendsItem code (item_of (λ n. n) h.needs_ack (has_number h.number) h.single_given (untyped d)) old new)
+    → LendsItem code (item_for (λ n. n) h (untyped d)) old new)
 
 -- of the handle at a place; without one nothing is stored
 abbrev pub LendsPlace : ℤ → ℕ → Session → NeliLent → NeliLent → Type 0
@@ -83,19 +84,8 @@ PassesHandle h h' s t =
     × (h.ended ≡ false → pending s h.number ≡ None → (h' ≡ record h { ended = true }) × (t.router ≡ s.router))
     × (h.ended ≡ false → pending s h.number ≡ Some [] → (h' ≡ h) × (t.router ≡ s.router))
     × (h.ended ≡ false → (d : Delivery) (ds : List Delivery) → pending s h.number ≡ Some (d ∷ ds)
-    → (pending t h.number ≡ Some ds)
-    × (h' ≡ record h {
-      single_given = h.single_given || is_single (λ n. n) (has_number h.number) (untyped d);
-      ended = ends_at (λ n. n) h.needs_ack (has_number h.number) h.single_given (untyped d);
-    }))
-    × (h.ended ≡ false → (d : Delivery) (ds : List Delivery) → pending s h.number ≡ Some (d ∷ ds)
-    → heard_of t.router.heard h.number
-    ≡ option_map (heard_with (λ n. n) h.needs_ack (has_number h.number) h.single_given d (untyped d))
-    (heard_of s.router.heard h.number))
-    × ((w : Option ℕ) → w ≢ h.number → pending t w ≡ pending s w)
-    × ((w : Option ℕ) → w ≢ h.number → heard_of t.router.heard w ≡ heard_of s.router.heard w)
-    × (t.router.deliveries.port ≡ s.router.deliveries.port) × (t.router.next_seq ≡ s.router.next_seq)
-    × (t.router.given_up ≡ s.router.given_up)
+    → GoesPast (λ n. n) pending_of d ds (untyped d) h h' s.router t.router)
+    × SameButHandle (λ d. d.port) pending_of h.number s.router t.router × (t.router.given_up ≡ s.router.given_up)
 
 -- of the handle at a place; without one nothing changes
 abbrev pub PassesPlace : ℤ → ℕ → Session → Session → Type 0

@@ -1,5 +1,5 @@
 -- What the calls of a router do to it, for every handle: as neli_router says it of its own calls.
-use Rattle.std.specs.Prelude.{◌≡◌, ◌≢◌, ◌⊎◌, ◌||◌, not, ℕ, ◌+◌, ℤ, pos, Bool, List, [], ◌∷◌, ◌++◌}
+use Rattle.std.specs.Prelude.{◌≡◌, ◌≢◌, ◌⊎◌, not, ℕ, ◌+◌, ℤ, pos, Bool, List, [], ◌∷◌, ◌++◌}
 use Rattle.std.specs.Prelude.{Option, Some, None}
 use Rattle.std.specs.Prelude.{IfSome, is_some, option_map, nat_eq, nat_lt, unsigned_abs, if◌then◌else◌}
 use Rattle.std.specs.Prelude.{length}
@@ -24,7 +24,8 @@ use Rattle.neli_router.specs.declared.reply.Reply.{Reply}
 use Rattle.neli_router.specs.declared.reply.Reply.TheVariants as reply
 use Rattle.neli_lent.specs.Messages.{Lent, messages_in}
 use Rattle.neli_router.specs.GivenUp.{has_end, is_given_up, still_open, ungrouped}
-use Rattle.neli_router.specs.Rule.{ends_at, has_number, is_single, item_of}
+use Rattle.neli_router.specs.Reads.{GoesPast, item_for}
+use Rattle.neli_router.specs.Same.{SameButHandle}
 use Rattle.neli_router.specs.Sends.{expects, frame_or_refusal, number_after}
 use Rattle.neli_router.specs.Verdicts.{begun, heard_of}
 use Rattle.neli_answers.specs.Answers.{answering_by_flags}
@@ -284,19 +285,13 @@ abbrev pub GivesNothing : Session → Session → NeliItem → NeliItem → Type
 GivesNothing s t shown shown' = (t.router ≡ s.router) × (t.held ≡ s.held) × (shown' ≡ shown)
 
 -- the first delivery of a handle is returned by the reply rule, its message is held and shown, and `ds` waits
-abbrev pub GivesDelivery : ℤ → HandleState → HandleState → Session → Delivery → List Delivery → NeliItem → NeliItem
-    → Type 0
-GivesDelivery code h h' t d ds shown shown' =
+abbrev pub GivesDelivery : ℤ → HandleState → HandleState → Session → Session → Delivery → List Delivery → NeliItem
+    → NeliItem → Type 0
+GivesDelivery code h h' s t d ds shown shown' =
     (given : Item ℕ (List ℕ)) × IsReading (λ n. n) (λ b. b) length (λ b. Ok b) d given
-    × (code ≡ item_code (item_of (λ n. n) h.needs_ack (has_number h.number) h.single_given given))
-    × (t.held ≡ item_message (item_of (λ n. n) h.needs_ack (has_number h.number) h.single_given given))
-    × (shown'
-    ≡ shown_of (item_message (item_of (λ n. n) h.needs_ack (has_number h.number) h.single_given given)) shown)
-    × (pending t h.number ≡ Some ds)
-    × (h' ≡ record h {
-      single_given = h.single_given || is_single (λ n. n) (has_number h.number) given;
-      ended = ends_at (λ n. n) h.needs_ack (has_number h.number) h.single_given given;
-    })
+    × (code ≡ item_code (item_for (λ n. n) h given)) × (t.held ≡ item_message (item_for (λ n. n) h given))
+    × (shown' ≡ shown_of (item_message (item_for (λ n. n) h given)) shown)
+    × GoesPast (λ n. n) pending_of d ds given h h' s.router t.router
 
 -- of a handle that exists, and is h' then: its end, that it is not open, a wait, or its first delivery; or memory ran
 -- out, and all is unchanged
@@ -310,9 +305,8 @@ ReadsHandle code h h' s t shown shown' =
     → (code ≡ waits) × (h' ≡ h) × GivesNothing s t shown shown')
     × (h.ended ≡ false → (d : Delivery) (ds : List Delivery) → pending s h.number ≡ Some (d ∷ ds)
     → ((code ≡ memory) × (h' ≡ h) × GivesNothing s t shown shown')
-    ⊎ GivesDelivery code h h' t d ds shown shown')
-    × ((w : Option ℕ) → w ≢ h.number → pending t w ≡ pending s w)
-    × (t.router.deliveries.port ≡ s.router.deliveries.port) × (t.router.next_seq ≡ s.router.next_seq)
+    ⊎ GivesDelivery code h h' s t d ds shown shown')
+    × SameButHandle (λ d. d.port) pending_of h.number s.router t.router
 
 -- a read of the handle at a place; without a handle, nothing changes
 abbrev pub ReadsPlace : ℤ → ℕ → Session → Session → NeliItem → NeliItem → Type 0

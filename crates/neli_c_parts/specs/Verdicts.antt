@@ -1,7 +1,7 @@
 -- Verdicts on answers, in C's terms, and the effect of giving up.
 use Rattle.std.specs.Prelude.{◌≡◌, ◌≢◌, ◌⊎◌, ℕ, ℤ, pos, List, if◌then◌else◌, ◌∷◌, Option}
 use Rattle.std.specs.Prelude.{Some, None, IfSome}
-use Rattle.std.specs.Prelude.{false, length, option_map, slice_set, Ok}
+use Rattle.std.specs.Prelude.{false, length, slice_set, Ok}
 use Rattle.neli_deliveries.specs.declared.delivery.Delivery.{Delivery}
 use Rattle.neli_deliveries.specs.Readings.{IsReading, Item}
 use Rattle.neli_router.specs.declared.handle.HandleState.{HandleState}
@@ -10,8 +10,8 @@ use Rattle.neli_router.specs.declared.verdict.Loss.TheVariants as loss
 use Rattle.neli_router.specs.declared.verdict.Verdict.{Verdict}
 use Rattle.neli_router.specs.declared.verdict.Verdict.TheVariants as verdict
 use Rattle.neli_router.specs.GivenUp.{IsLeft, has_finished, still_open}
-use Rattle.neli_router.specs.Rule.{has_number}
-use Rattle.neli_router.specs.Verdicts.{heard_of, heard_with, known_of, verdict_by}
+use Rattle.neli_router.specs.Reads.{known_after}
+use Rattle.neli_router.specs.Verdicts.{heard_of, known_of, verdict_by}
 use Rattle.neli_c_parts.specs.declared.session.NeliVerdict.{NeliVerdict}
 use Rattle.neli_c_parts.specs.declared.session.Session.{Session}
 use Rattle.neli_c_parts.specs.declared.session.Slot.TheVariants as slot
@@ -66,8 +66,7 @@ HearsHandle h s t =
     (h.ended ≡ false → (d : Delivery) (ds : List Delivery) → pending s h.number ≡ Some (d ∷ ds)
     → (t.router ≡ s.router) ⊎ ((given : Item ℕ (List ℕ)) × IsReading (λ n. n) (λ b. b) length (λ b. Ok b) d given
     × (heard_of t.router.heard h.number
-    ≡ option_map (heard_with (λ n. n) h.needs_ack (has_number h.number) h.single_given d given)
-    (heard_of s.router.heard h.number))))
+    ≡ known_after (λ n. n) h d given (heard_of s.router.heard h.number))))
     × ((w : Option ℕ) → w ≢ h.number → heard_of t.router.heard w ≡ heard_of s.router.heard w)
     × (t.router.given_up ≡ s.router.given_up)
 

@@ -1,8 +1,10 @@
 pub mod GivenUp
 pub mod Lending
 pub mod Listening
+pub mod Reads
 pub mod Requests
 pub mod Rule
+pub mod Same
 pub mod Sends
 pub mod Verdicts
 pub mod laws

@@ -1,6 +1,6 @@
 //! Giving up: a handle is dropped, and its number stays open until the end of its answer.
 
-ghost use Rattle.std.specs.Prelude.{true, false, ◌≡◌, ◌||◌, ◌++◌, ◌∷◌, [], ℕ, Bool, List, None, Some, IsOk, IfOk};
+ghost use Rattle.std.specs.Prelude.{true, false, ◌≡◌, ◌||◌, ◌++◌, ◌∷◌, [], ℕ, List, None, Some, IsOk, IfOk};
 ghost use Rattle.std.specs.Prelude.{Option, OnErr, OnOk, is_some, option_map, if◌then◌else◌};
 ghost use Rattle.std.specs.List.{list_any};
 ghost use Rattle.neli_answers.specs.declared.answering.Answering.TheVariants as answered;
@@ -14,6 +14,7 @@ ghost use Rattle.neli_router.specs.GivenUp.{IsLeft, ends_it, finishes, given_up,
 ghost use Rattle.neli_router.specs.GivenUp.{kept_of};
 ghost use Rattle.neli_router.specs.GivenUp.{still_open, ungrouped};
 ghost use Rattle.neli_router.specs.Listening.{missed_with};
+ghost use Rattle.neli_router.specs.Same.{SameButDeliveries, SameButHandle};
 ghost use Rattle.neli_router.specs.Verdicts.{heard_of, known_of};
 
 use crate::listening::missed_with;
@@ -123,10 +124,7 @@ fn finishes<D: Deliveries>(deliveries: &mut D, number: u32, answering: Answering
 impl<D: Deliveries> NlRouter<D> {
     /// Forgets the given-up numbers that are no longer open.
     pub(crate) fn forget_closed(&mut self)
-        ensures deliveries { self.new.deliveries ≡ self.old.deliveries }
-        ensures next_seq { self.new.next_seq ≡ self.old.next_seq }
-        ensures heard { self.new.heard ≡ self.old.heard }
-        ensures missed { self.new.missed ≡ self.old.missed }
+        ensures same { self.new ≡ record self.old { given_up = self.new.given_up } }
         ensures given_up { self.new.given_up.items
             ≡ still_open (D.pending self.old.deliveries) self.old.given_up.items }
     {
@@ -137,9 +135,7 @@ impl<D: Deliveries> NlRouter<D> {
 
     /// Keeps nothing in these bytes for the requests that were given up, and closes those whose answer ends there.
     fn settle(&mut self, bytes: &[u8])
-        ensures port { D.port_of self.new.deliveries ≡ D.port_of self.old.deliveries }
-        ensures next_seq { self.new.next_seq ≡ self.old.next_seq }
-        ensures heard { self.new.heard ≡ self.old.heard }
+        ensures same { SameButDeliveries D.port_of self.old self.new }
         ensures missed { self.new.missed ≡ self.old.missed }
         ensures kept { (w : Option ℕ) → D.pending self.new.deliveries w
             ≡ kept_of (D.port_of self.old.deliveries) self.old.given_up.items
@@ -159,9 +155,7 @@ impl<D: Deliveries> NlRouter<D> {
     ///
     /// Refused only if memory runs out; then nothing is delivered.
     pub fn receive(&mut self, bytes: &[u8], groups: &Groups) -> Result<(), NoMemory>
-        ensures port { D.port_of self.new.deliveries ≡ D.port_of self.old.deliveries }
-        ensures next_seq { self.new.next_seq ≡ self.old.next_seq }
-        ensures heard { self.new.heard ≡ self.old.heard }
+        ensures same { SameButDeliveries D.port_of self.old self.new }
         ensures missed { self.new.missed ≡ self.old.missed }
         // Whatever was given up, the others get the same as from `processing_loop`.
         ensures others { OnOk result ((w : Option ℕ)
@@ -197,9 +191,7 @@ impl<D: Deliveries> NlRouter<D> {
     /// Refused only if memory runs out; then nothing is delivered. A link that would block, and any fault while no
     /// number is open, is never refused.
     pub fn link_failed(&mut self, error: SocketError) -> Result<(), NoMemory>
-        ensures port { D.port_of self.new.deliveries ≡ D.port_of self.old.deliveries }
-        ensures next_seq { self.new.next_seq ≡ self.old.next_seq }
-        ensures heard { self.new.heard ≡ self.old.heard }
+        ensures same { SameButDeliveries D.port_of self.old self.new }
         ensures others { OnOk result ((w : Option ℕ)
             → is_given_up self.old.given_up.items w ≡ false
             → D.pending self.new.deliveries w ≡ option_map (λ ds. ds ++ fault_share w error)
@@ -239,10 +231,8 @@ impl<D: Deliveries> NlRouter<D> {
     ///
     /// Refused only if memory runs out.
     fn leave(&mut self, number: u32, known: Heard) -> Result<bool, NoMemory>
-        ensures port { D.port_of self.new.deliveries ≡ D.port_of self.old.deliveries }
-        ensures next_seq { self.new.next_seq ≡ self.old.next_seq }
+        ensures same { SameButDeliveries D.port_of self.old self.new }
         ensures missed { self.new.missed ≡ self.old.missed }
-        ensures heard { self.new.heard ≡ self.old.heard }
         ensures others { SameListsBut (Some number)
             (D.pending self.old.deliveries) (D.pending self.new.deliveries) }
         ensures ok { (ds : List Waiting) → D.pending self.old.deliveries (Some number) ≡ Some ds
@@ -276,9 +266,7 @@ impl<D: Deliveries> NlRouter<D> {
         _alloc: Global,
         handle: NlRouterReceiverHandle<RT, RP>,
     ) -> Result<(), NoMemory>
-        ensures port { D.port_of self.new.deliveries ≡ D.port_of self.old.deliveries }
-        ensures next_seq { self.new.next_seq ≡ self.old.next_seq }
-        ensures missed { self.new.missed ≡ self.old.missed }
+        ensures same { SameButHandle D.port_of D.pending handle.number self.old self.new }
         ensures multicast { handle.number ≡ None
             → (IsOk result) × (D.pending self.new.deliveries None ≡ None) }
         ensures closed { D.pending self.old.deliveries handle.number ≡ None
@@ -290,11 +278,7 @@ impl<D: Deliveries> NlRouter<D> {
             (has_finished (known_of handle.needs_ack (heard_of self.old.heard (Some q))) ds)
             self.old.given_up.items
             (D.pending self.new.deliveries) self.new.given_up.items) }
-        ensures others { SameListsBut handle.number
-            (D.pending self.old.deliveries) (D.pending self.new.deliveries) }
         ensures unheard { heard_of self.new.heard handle.number ≡ None }
-        ensures heard { SameListsBut handle.number
-            (heard_of self.old.heard) (heard_of self.new.heard) }
         ensures refused { OnErr result ((D.pending self.new.deliveries handle.number ≡ None)
             × (self.new.given_up.items
             ≡ still_open (D.pending self.new.deliveries) self.old.given_up.items)) }

@@ -1,6 +1,6 @@
 //! Lent reads: a handle's next item where the log keeps its bytes, and the step past it.
 
-ghost use Rattle.std.specs.Prelude.{true, false, ◌≡◌, ◌||◌, ◌∷◌, [], ℕ, List, None, Some, Err, option_map};
+ghost use Rattle.std.specs.Prelude.{true, false, ◌≡◌, ◌||◌, ◌∷◌, [], List, None, Some, Err, option_map};
 ghost use Rattle.neli_reader.specs.Kinds.{is_acknowledged};
 ghost use Rattle.neli_lent.specs.Messages.{message_view};
 ghost use Rattle.neli_deliveries.specs.Lists.{SameListsBut};
@@ -9,8 +9,10 @@ ghost use Rattle.neli_log.specs.Log.{pending_of};
 ghost use Rattle.neli_router.specs.Lending.{IsLentReply, code_or_zero, lent_end_code, lent_ends, lent_error_verdict};
 ghost use Rattle.neli_router.specs.Lending.{lent_item, lent_last, lent_single, lent_step, lent_verdict};
 ghost use Rattle.neli_router.specs.Lending.{is_lent_flagged, untyped, with_step};
-ghost use Rattle.neli_router.specs.Rule.{ends_at, has_number, is_single, item_of};
-ghost use Rattle.neli_router.specs.Verdicts.{heard_of, heard_with};
+ghost use Rattle.neli_router.specs.Reads.{GoesPast, item_for};
+ghost use Rattle.neli_router.specs.Rule.{has_number};
+ghost use Rattle.neli_router.specs.Same.{SameButHandle};
+ghost use Rattle.neli_router.specs.Verdicts.{heard_of};
 ghost use Rattle.neli_router.specs.declared.lending.LentError.TheVariants as error;
 ghost use Rattle.neli_router.specs.declared.lending.LentReply.TheVariants as reply;
 
@@ -307,8 +309,7 @@ impl NlRouter<Log> {
             → result ≡ reply.Waits }
         ensures lends { handle.now.ended ≡ false → (d : Waiting) (ds : List Waiting)
             → pending_of self.now.deliveries handle.now.number ≡ Some (d ∷ ds)
-            → IsLentReply (item_of (λ n. n) handle.now.needs_ack (has_number handle.now.number)
-            handle.now.single_given (untyped d)) result }
+            → IsLentReply (item_for (λ n. n) handle.now (untyped d)) result }
     {
         let state = handle.state();
         if state.ended {
@@ -330,8 +331,7 @@ impl NlRouter<Log> {
     ///
     /// Where no item waits nothing changes. A handle that is not open here is then ended.
     pub fn pass<RT, RP>(&mut self, handle: &mut NlRouterReceiverHandle<RT, RP>)
-        ensures port { self.new.deliveries.port ≡ self.old.deliveries.port }
-        ensures next_seq { self.new.next_seq ≡ self.old.next_seq }
+        ensures same { SameButHandle (λ d. d.port) pending_of handle.old.number self.old self.new }
         ensures ended { handle.old.ended ≡ true
             → (handle.new ≡ handle.old) × (self.new ≡ self.old) }
         ensures closed { handle.old.ended ≡ false
@@ -342,26 +342,8 @@ impl NlRouter<Log> {
             → (handle.new ≡ handle.old) × (self.new ≡ self.old) }
         ensures passes { handle.old.ended ≡ false → (d : Waiting) (ds : List Waiting)
             → pending_of self.old.deliveries handle.old.number ≡ Some (d ∷ ds)
-            → (pending_of self.new.deliveries handle.old.number ≡ Some ds)
-            × (handle.new ≡ record handle.old {
-              single_given = handle.old.single_given
-                  || is_single (λ n. n) (has_number handle.old.number) (untyped d);
-              ended = ends_at (λ n. n) handle.old.needs_ack
-                  (has_number handle.old.number) handle.old.single_given (untyped d);
-            }) }
-        ensures others { SameListsBut handle.old.number
-            (pending_of self.old.deliveries) (pending_of self.new.deliveries) }
-        // Beside `passes`: what that item adds for `verdict`.
-        ensures heard { handle.old.ended ≡ false → (d : Waiting) (ds : List Waiting)
-            → pending_of self.old.deliveries handle.old.number ≡ Some (d ∷ ds)
-            → heard_of self.new.heard handle.old.number
-            ≡ option_map (heard_with (λ n. n) handle.old.needs_ack
-            (has_number handle.old.number) handle.old.single_given d (untyped d))
-            (heard_of self.old.heard handle.old.number) }
-        ensures unheard { SameListsBut handle.old.number
-            (heard_of self.old.heard) (heard_of self.new.heard) }
+            → GoesPast (λ n. n) pending_of d ds (untyped d) handle.old handle.new self.old self.new }
         ensures given_up { self.new.given_up ≡ self.old.given_up }
-        ensures missed { self.new.missed ≡ self.old.missed }
     {
         let state = handle.state();
         if state.ended {

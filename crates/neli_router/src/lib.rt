@@ -9,7 +9,8 @@
 //!   what it returns. [`NlRouter::lend_items`] lends all that wait, one after the other ([`ItemsAhead`]).
 //! - [`laws`]: `==` of what is known of handles is equality, and a lent read is an owned one.
 //!
-//! `specs/Rule.antt` defines where a handle's answers end and what each read returns; `specs/Sends.antt` the bytes of a
+//! `specs/Rule.antt` defines where a handle's answers end and what each read returns; `specs/Reads.antt` a read of the
+//! next item, and the step past it; `specs/Same.antt` what a call leaves as it was; `specs/Sends.antt` the bytes of a
 //! request, and the three causes that refuse it; `specs/Requests.antt` the two requests to the controller of generic
 //! netlink; `specs/Verdicts.antt` the verdict on an answer, by where the other side's ends ([`Answering`]), and
 //! `specs/GivenUp.antt` what is kept of one that was given up; `specs/Lending.antt` what a lent read lends, and what

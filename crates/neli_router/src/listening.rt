@@ -7,6 +7,7 @@ ghost use Rattle.neli_deliveries.specs.declared.delivery.Delivery.{Delivery as W
 ghost use Rattle.neli_deliveries.specs.Deliveries.{fault_share, is_would_block};
 ghost use Rattle.neli_router.specs.GivenUp.{is_given_up, still_open};
 ghost use Rattle.neli_router.specs.Listening.{IsNotice, fault_kind, missed_with};
+ghost use Rattle.neli_router.specs.Same.{SameButDeliveries};
 ghost use Rattle.neli_router.specs.declared.listening.Missed.{Missed as Lost};
 ghost use Rattle.neli_reader.specs.SocketError.TheVariants as socket;
 ghost use Rattle.neli_router.specs.declared.listening.Missed.TheVariants as missed;
@@ -82,9 +83,7 @@ impl<D: Deliveries> NlRouter<D> {
     ///
     /// Refused only if memory runs out; then nothing is delivered. Never refused while no number is open.
     pub fn link_overran(&mut self) -> Result<(), NoMemory>
-        ensures port { D.port_of self.new.deliveries ≡ D.port_of self.old.deliveries }
-        ensures next_seq { self.new.next_seq ≡ self.old.next_seq }
-        ensures heard { self.new.heard ≡ self.old.heard }
+        ensures same { SameButDeliveries D.port_of self.old self.new }
         ensures others { OnOk result ((w : Option ℕ)
             → is_given_up self.old.given_up.items w ≡ false
             → D.pending self.new.deliveries w
@@ -116,9 +115,7 @@ impl<D: Deliveries> NlRouter<D> {
         &mut self,
         alloc: Global,
     ) -> Result<Notice<T, P>, NoMemory>
-        ensures port { D.port_of self.new.deliveries ≡ D.port_of self.old.deliveries }
-        ensures next_seq { self.new.next_seq ≡ self.old.next_seq }
-        ensures heard { self.new.heard ≡ self.old.heard }
+        ensures same { SameButDeliveries D.port_of self.old self.new }
         ensures given_up { self.new.given_up ≡ self.old.given_up }
         ensures missed { (m : Lost) → self.old.missed ≡ Some m
             → (result ≡ Ok (notice.Missed m)) × (self.new.missed ≡ None)

@@ -3,6 +3,7 @@
 ghost use Rattle.std.specs.Prelude.{false, ◌≡◌, ◌≤◌, Some, Ok, IfOk, IfErr, OnErr, is_some, length};
 ghost use Rattle.neli_router.specs.Requests.{Asks, AsksNothing, FamilyTakesMemory, families_request, families_sent};
 ghost use Rattle.neli_router.specs.Requests.{family_request, family_sent, getfamily, name_attribute, sent_to_controller};
+ghost use Rattle.neli_router.specs.Same.{SameButRequest};
 ghost use Rattle.neli_router.specs.Sends.{RefusesSend};
 ghost use Rattle.neli_router.specs.Verdicts.{heard_of};
 
@@ -40,7 +41,7 @@ impl<D: Deliveries> NlRouter<D> {
         ),
         RouterError<GenlId, Genlmsghdr<CtrlCmd, CtrlAttr>>,
     >
-        ensures port { D.port_of self.new.deliveries ≡ D.port_of self.old.deliveries }
+        ensures same { SameButRequest D.port_of self.old self.new }
         ensures bytes { IfOk result (λ r. family_sent
             (D.port_of self.old.deliveries) self.old.next_seq
             (is_some (D.pending self.old.deliveries (Some self.old.next_seq))) name.now
@@ -61,8 +62,6 @@ impl<D: Deliveries> NlRouter<D> {
         ensures unchanged { OnErr result (AsksNothing self.old.next_seq self.new.next_seq
             (D.pending self.old.deliveries) (D.pending self.new.deliveries)
             (heard_of self.old.heard) (heard_of self.new.heard)) }
-        ensures given_up { self.new.given_up ≡ self.old.given_up }
-        ensures missed { self.new.missed ≡ self.old.missed }
     {
         let number = self.next_seq;
         if self.deliveries.is_open(Some(number)) {
@@ -91,7 +90,7 @@ impl<D: Deliveries> NlRouter<D> {
         ),
         RouterError<GenlId, Genlmsghdr<CtrlCmd, CtrlAttr>>,
     >
-        ensures port { D.port_of self.new.deliveries ≡ D.port_of self.old.deliveries }
+        ensures same { SameButRequest D.port_of self.old self.new }
         ensures bytes { IfOk result (λ r. families_sent
             (D.port_of self.old.deliveries) self.old.next_seq
             (is_some (D.pending self.old.deliveries (Some self.old.next_seq))) ≡ Ok r.0.items) }
@@ -110,8 +109,6 @@ impl<D: Deliveries> NlRouter<D> {
         ensures unchanged { OnErr result (AsksNothing self.old.next_seq self.new.next_seq
             (D.pending self.old.deliveries) (D.pending self.new.deliveries)
             (heard_of self.old.heard) (heard_of self.new.heard)) }
-        ensures given_up { self.new.given_up ≡ self.old.given_up }
-        ensures missed { self.new.missed ≡ self.old.missed }
     {
         let body = getfamily(alloc, GenlBuffer::new(alloc));
         self.send(alloc, GenlId::Ctrl, NlmF::DUMP, NlPayload::Payload(body))

@@ -1,17 +1,18 @@
 //! The router's calls.
 
-ghost use Rattle.std.specs.Prelude.{true, false, ◌≡◌, ◌||◌, ℕ, List, [], ◌∷◌, None, Some, Ok, Err, IsOk, IfOk, IfErr};
+ghost use Rattle.std.specs.Prelude.{true, false, ◌≡◌, ℕ, List, [], ◌∷◌, None, Some, Ok, Err, IsOk, IfOk, IfErr};
 ghost use Rattle.std.specs.Prelude.{Option, OnOk, OnErr, is_some, option_map};
 ghost use Rattle.neli_reader.specs.Cuts.{cut_of};
 ghost use Rattle.neli_reader.specs.Agreement.{untyped_layout};
 ghost use Rattle.neli_deliveries.specs.Lists.{ListsGain, Opens, SameLists, SameListsBut};
 ghost use Rattle.neli_deliveries.specs.declared.delivery.Delivery.{Delivery as Waiting};
 ghost use Rattle.neli_deliveries.specs.Deliveries.{fault_share, heading_of, is_would_block, datagram_share};
-ghost use Rattle.neli_deliveries.specs.Readings.{IsReading, Item as Given, ReadingTakesMemory};
+ghost use Rattle.neli_deliveries.specs.Readings.{ReadingTakesMemory};
 ghost use Rattle.neli_router.specs.declared.reply.Reply.TheVariants as reply;
-ghost use Rattle.neli_router.specs.Rule.{ends_at, has_number, is_single, item_of};
 ghost use Rattle.neli_router.specs.GivenUp.{still_open};
-ghost use Rattle.neli_router.specs.Verdicts.{begun, heard_after, heard_of, heard_with, settled, verdict_by};
+ghost use Rattle.neli_router.specs.Reads.{IsNextRead};
+ghost use Rattle.neli_router.specs.Same.{SameButDeliveries, SameButHandle, SameButRequest};
+ghost use Rattle.neli_router.specs.Verdicts.{begun, heard_after, heard_of, settled, verdict_by};
 ghost use Rattle.neli_answers.specs.Answers.{answering_by_flags};
 ghost use Rattle.neli_router.specs.Sends.{RefusesSend, TakesMemory, asks, expects, number_after, frame_or_refusal};
 
@@ -100,11 +101,7 @@ impl<D: Deliveries> NlRouter<D> {
 
     /// Sets the sequence number of the next request.
     pub fn set_next_seq(&mut self, number: u32)
-        ensures next_seq { self.new.next_seq ≡ number }
-        ensures deliveries { self.new.deliveries ≡ self.old.deliveries }
-        ensures heard { self.new.heard ≡ self.old.heard }
-        ensures given_up { self.new.given_up ≡ self.old.given_up }
-        ensures missed { self.new.missed ≡ self.old.missed }
+        ensures { self.new ≡ record self.old { next_seq = number } }
     {
         self.next_seq = number;
     }
@@ -123,7 +120,7 @@ impl<D: Deliveries> NlRouter<D> {
         nl_flags: NlmF,
         nl_payload: NlPayload<ST, SP>,
     ) -> Result<(Vec<u8>, NlRouterReceiverHandle<RT, RP>), RouterError<ST, SP>>
-        ensures port { D.port_of self.new.deliveries ≡ D.port_of self.old.deliveries }
+        ensures same { SameButRequest D.port_of self.old self.new }
         ensures bytes { IfOk result (λ r. frame_or_refusal
             ST.wire_number SP.wire SP.Size.wire_length
             (D.port_of self.old.deliveries) self.old.next_seq
@@ -149,8 +146,6 @@ impl<D: Deliveries> NlRouter<D> {
             (heard_of self.old.heard) (heard_of self.new.heard)) }
         ensures unheard { OnErr result
             (SameLists (heard_of self.old.heard) (heard_of self.new.heard)) }
-        ensures given_up { self.new.given_up ≡ self.old.given_up }
-        ensures missed { self.new.missed ≡ self.old.missed }
     {
         let answering = Answering::by_flags(nl_flags);
         self.send_expecting(alloc, answering, nl_type, nl_flags, nl_payload)
@@ -166,7 +161,7 @@ impl<D: Deliveries> NlRouter<D> {
         nl_flags: NlmF,
         nl_payload: NlPayload<ST, SP>,
     ) -> Result<(Vec<u8>, NlRouterReceiverHandle<RT, RP>), RouterError<ST, SP>>
-        ensures port { D.port_of self.new.deliveries ≡ D.port_of self.old.deliveries }
+        ensures same { SameButRequest D.port_of self.old self.new }
         ensures bytes { IfOk result (λ r. frame_or_refusal
             ST.wire_number SP.wire SP.Size.wire_length
             (D.port_of self.old.deliveries) self.old.next_seq
@@ -192,8 +187,6 @@ impl<D: Deliveries> NlRouter<D> {
             (heard_of self.old.heard) (heard_of self.new.heard)) }
         ensures unheard { OnErr result
             (SameLists (heard_of self.old.heard) (heard_of self.new.heard)) }
-        ensures given_up { self.new.given_up ≡ self.old.given_up }
-        ensures missed { self.new.missed ≡ self.old.missed }
     {
         let number = self.next_seq;
         if self.deliveries.is_open(Some(number)) {
@@ -223,8 +216,7 @@ impl<D: Deliveries> NlRouter<D> {
     ///
     /// Refused only if memory runs out; then nothing is delivered.
     pub fn processing_loop(&mut self, bytes: &[u8], groups: &Groups) -> Result<(), NoMemory>
-        ensures port { D.port_of self.new.deliveries ≡ D.port_of self.old.deliveries }
-        ensures next_seq { self.new.next_seq ≡ self.old.next_seq }
+        ensures same { SameButDeliveries D.port_of self.old self.new }
         ensures ok { OnOk result (ListsGain (λ w. datagram_share (D.port_of self.old.deliveries)
             (λ q. is_some (D.pending self.old.deliveries (Some q))) w
             (cut_of untyped_layout bytes.now) groups.now)
@@ -232,7 +224,6 @@ impl<D: Deliveries> NlRouter<D> {
         ensures unchanged { OnErr result (SameLists
             (D.pending self.old.deliveries) (D.pending self.new.deliveries)) }
         ensures empty { bytes.now ≡ [] → IsOk result }
-        ensures heard { self.new.heard ≡ self.old.heard }
         ensures given_up { self.new.given_up ≡ self.old.given_up }
         ensures missed { self.new.missed ≡ self.old.missed }
     {
@@ -244,15 +235,13 @@ impl<D: Deliveries> NlRouter<D> {
     /// Refused only if memory runs out; then nothing is delivered. A link that would block, and any fault while no
     /// number is open, is never refused.
     pub fn error_handling(&mut self, error: SocketError) -> Result<(), NoMemory>
-        ensures port { D.port_of self.new.deliveries ≡ D.port_of self.old.deliveries }
-        ensures next_seq { self.new.next_seq ≡ self.old.next_seq }
+        ensures same { SameButDeliveries D.port_of self.old self.new }
         ensures ok { OnOk result (ListsGain (λ w. fault_share w error)
             (D.pending self.old.deliveries) (D.pending self.new.deliveries)) }
         ensures unchanged { OnErr result (SameLists
             (D.pending self.old.deliveries) (D.pending self.new.deliveries)) }
         ensures would_block { is_would_block error ≡ true → IsOk result }
         ensures unawaited { ((q : ℕ) → D.pending self.old.deliveries (Some q) ≡ None) → IsOk result }
-        ensures heard { self.new.heard ≡ self.old.heard }
         ensures given_up { self.new.given_up ≡ self.old.given_up }
         ensures missed { self.new.missed ≡ self.old.missed }
     {
@@ -269,8 +258,7 @@ impl<D: Deliveries> NlRouter<D> {
         alloc: Global,
         handle: &mut NlRouterReceiverHandle<RT, RP>,
     ) -> Result<Reply<T, P>, NoMemory>
-        ensures port { D.port_of self.new.deliveries ≡ D.port_of self.old.deliveries }
-        ensures next_seq { self.new.next_seq ≡ self.old.next_seq }
+        ensures same { SameButHandle D.port_of D.pending handle.old.number self.old self.new }
         ensures ended { handle.old.ended ≡ true
             → (result ≡ Ok reply.End) × (handle.new ≡ handle.old) × (self.new ≡ self.old) }
         ensures closed { handle.old.ended ≡ false
@@ -282,38 +270,13 @@ impl<D: Deliveries> NlRouter<D> {
             → (result ≡ Ok reply.Waits) × (handle.new ≡ handle.old) × (self.new ≡ self.old) }
         ensures gives { handle.old.ended ≡ false → (d : Waiting) (ds : List Waiting)
             → D.pending self.old.deliveries handle.old.number ≡ Some (d ∷ ds)
-            → IfOk result (λ given. (item : Given T P)
-            × IsReading T.wire_value P.view P.wire_length P.read d item
-            × (given ≡ reply.Item (item_of T.wire_number handle.old.needs_ack
-            (has_number handle.old.number) handle.old.single_given item))
-            × (D.pending self.new.deliveries handle.old.number ≡ Some ds)
-            × (handle.new ≡ record handle.old {
-              single_given = handle.old.single_given
-                  || is_single T.wire_number (has_number handle.old.number) item;
-              ended = ends_at T.wire_number handle.old.needs_ack
-                  (has_number handle.old.number) handle.old.single_given item;
-            })) }
-        ensures others { SameListsBut handle.old.number
-            (D.pending self.old.deliveries) (D.pending self.new.deliveries) }
+            → IfOk result (IsNextRead T.wire_value T.wire_number P.view P.wire_length P.read
+            D.pending d ds handle.old handle.new self.old self.new (λ x. reply.Item x)) }
         ensures unchanged { OnErr result ((handle.new ≡ handle.old) × (self.new ≡ self.old)) }
         ensures memory { handle.old.ended ≡ false → (d : Waiting) (ds : List Waiting)
             → D.pending self.old.deliveries handle.old.number ≡ Some (d ∷ ds)
             → OnErr result (ReadingTakesMemory P.takes_memory d) }
-        // Beside `gives`: what that item adds for `verdict`.
-        ensures heard { handle.old.ended ≡ false → (d : Waiting) (ds : List Waiting)
-            → D.pending self.old.deliveries handle.old.number ≡ Some (d ∷ ds)
-            → IfOk result (λ given. (item : Given T P)
-            × IsReading T.wire_value P.view P.wire_length P.read d item
-            × (given ≡ reply.Item (item_of T.wire_number handle.old.needs_ack
-            (has_number handle.old.number) handle.old.single_given item))
-            × (heard_of self.new.heard handle.old.number
-            ≡ option_map (heard_with T.wire_number handle.old.needs_ack
-            (has_number handle.old.number) handle.old.single_given d item)
-            (heard_of self.old.heard handle.old.number))) }
-        ensures unheard { SameListsBut handle.old.number
-            (heard_of self.old.heard) (heard_of self.new.heard) }
         ensures given_up { self.new.given_up ≡ self.old.given_up }
-        ensures missed { self.new.missed ≡ self.old.missed }
     {
         let state = handle.state();
         if state.ended {
@@ -364,17 +327,11 @@ impl<D: Deliveries> NlRouter<D> {
     /// A handle is known by its number. If that is not open here nothing changes; a handle of another router closes the
     /// one with the same number here.
     pub fn close<RT, RP>(&mut self, handle: NlRouterReceiverHandle<RT, RP>)
-        ensures port { D.port_of self.new.deliveries ≡ D.port_of self.old.deliveries }
-        ensures next_seq { self.new.next_seq ≡ self.old.next_seq }
+        ensures same { SameButHandle D.port_of D.pending handle.number self.old self.new }
         ensures closed { D.pending self.new.deliveries handle.number ≡ None }
-        ensures others { SameListsBut handle.number
-            (D.pending self.old.deliveries) (D.pending self.new.deliveries) }
         ensures unheard { heard_of self.new.heard handle.number ≡ None }
-        ensures heard { SameListsBut handle.number
-            (heard_of self.old.heard) (heard_of self.new.heard) }
         ensures given_up { self.new.given_up.items
             ≡ still_open (D.pending self.new.deliveries) self.old.given_up.items }
-        ensures missed { self.new.missed ≡ self.old.missed }
     {
         self.deliveries.close(handle.state().number);
         if let Some(number) = handle.state().number {
@@ -419,13 +376,11 @@ impl<D: Deliveries> NlRouter<D> {
 
     /// Forgets what is known of the answer to a request.
     pub(crate) fn forget_heard(&mut self, number: u32)
-        ensures deliveries { self.new.deliveries ≡ self.old.deliveries }
-        ensures next_seq { self.new.next_seq ≡ self.old.next_seq }
+        ensures same { self.new
+            ≡ record self.old { heard = self.new.heard; hints = self.new.hints } }
         ensures unheard { heard_of self.new.heard (Some number) ≡ None }
         ensures heard { SameListsBut (Some number)
             (heard_of self.old.heard) (heard_of self.new.heard) }
-        ensures given_up { self.new.given_up ≡ self.old.given_up }
-        ensures missed { self.new.missed ≡ self.old.missed }
     {
         if let Some((index, _, _)) = self.heard.swap_remove_full(&number) {
             self.hints.note_at(&self.heard, index);

@@ -1,7 +1,8 @@
 //! The reply rule, one read at a time.
 
-ghost use Rattle.std.specs.Prelude.{◌≡◌, ◌||◌};
-ghost use Rattle.neli_router.specs.Rule.{awaits, ends_alone, ends_at, has_number, is_single, item_of, last_item, needs_ack};
+ghost use Rattle.std.specs.Prelude.{◌≡◌};
+ghost use Rattle.neli_router.specs.Reads.{handle_after, item_for};
+ghost use Rattle.neli_router.specs.Rule.{awaits, ends_alone, is_single, last_item, needs_ack};
 
 use crate::HandleState;
 use bitflags::Flags;
@@ -90,13 +91,8 @@ pub(crate) fn answer<T: NlType, P: Drop>(
     handle: HandleState,
     item: Result<Nlmsghdr<T, P>, RouterError<T, P>>,
 ) -> (HandleState, Result<Nlmsghdr<T, P>, RouterError<T, P>>)
-    ensures item { result.1 ≡ item_of T.wire_number
-        handle.needs_ack (has_number handle.number) handle.single_given item }
-    ensures handle { result.0 ≡ record handle {
-      single_given = handle.single_given || is_single T.wire_number (has_number handle.number) item;
-      ended = ends_at T.wire_number
-          handle.needs_ack (has_number handle.number) handle.single_given item;
-    } }
+    ensures item { result.1 ≡ item_for T.wire_number handle item }
+    ensures handle { result.0 ≡ handle_after T.wire_number handle item }
 {
     let single = is_single(handle.number.is_some(), &item);
     let ended = ends_alone(&item)

@@ -1,8 +1,7 @@
 -- One read, from what the router's call says of it.
-use Rattle.std.proofs.Common.{◌≡◌, ◌≢◌, ℕ, Bool, true, false, ◌||◌, List, [], ◌∷◌, Option, Some, None, Result, Ok, Err}
-use Rattle.std.proofs.Common.{refl, sym, ap, ap₂, ◌∙◌, inl, inr, ◌⊎◌, subst}
+use Rattle.std.proofs.Common.{◌≡◌, ◌≢◌, ℕ, Bool, true, false, List, [], ◌∷◌, Option, Some, None, Result, Ok, Err}
+use Rattle.std.proofs.Common.{refl, sym, ap, ◌∙◌, inl, inr, ◌⊎◌, subst}
 use Rattle.std.specs.Prelude.{if◌then◌else◌}
-use Rattle.std.specs.Option.{option_map}
 use Rattle.neli_wire.specs.declared.errors.DeError.{DeError}
 use Rattle.neli_reader.specs.Framed.{Nlmsghdr}
 use Rattle.neli_reader.specs.NlPayload.{NlPayload}
@@ -10,70 +9,21 @@ use Rattle.neli_reader.specs.NlPayload.TheVariants as payload
 use Rattle.neli_reader.specs.RouterError.TheVariants as router
 use Rattle.neli_deliveries.specs.declared.delivery.Delivery.{Delivery}
 use Rattle.neli_deliveries.specs.declared.delivery.Delivery.TheVariants as delivery
-use Rattle.neli_deliveries.specs.Deliveries.{heading_of}
 use Rattle.neli_deliveries.specs.Readings.{IsReading, Item}
 use Rattle.neli_router.specs.declared.handle.HandleState.{HandleState}
 use Rattle.neli_router.specs.declared.reply.Reply.{Reply}
 use Rattle.neli_router.specs.declared.reply.Reply.TheVariants as reply
 use Rattle.neli_router.specs.declared.router.NlRouter.{NlRouter}
 use Rattle.neli_router.specs.declared.verdict.Heard.{Heard}
-use Rattle.neli_router.specs.Rule.{ends_alone, ends_at, has_number, is_single, item_of, last_item, last_item_of_payload}
-use Rattle.neli_router.specs.Verdicts.{heard_after, heard_with}
+use Rattle.neli_router.specs.Reads.{IsNextRead, handle_after, item_for, known_after}
+use Rattle.neli_router.specs.Rule.{ends_at, has_number, item_of, last_item, last_item_of_payload}
 use Rattle.neli_router.specs.laws.Places.{true_or_false}
+use Rattle.neli_short_router.specs.Next.{next_of}
 use Rattle.neli_short_router.specs.Reads.{Gives, IsRead, LeavesRest, Stand, stand_after, standing}
 
 -- ---- items
 
-left_false : (a b : Bool) → (a || b) ≡ false → a ≡ false
-left_false true b e = cc
-left_false false b e = refl
-
 module _ {K P : Type 0} (needs after : Bool) where
-  -- what is given at the end, if it does not end alone, is the message
-  same_payload : (m : Nlmsghdr K P) (p : NlPayload K P)
-      → ends_alone (last_item_of_payload needs after m p) ≡ false → last_item_of_payload needs after m p ≡ Ok m
-  same_payload m (payload.Ack e) = elim needs as (λ b. ends_alone (last_item_of_payload b after m (payload.Ack e)) ≡ false
-      → last_item_of_payload b after m (payload.Ack e) ≡ Ok m) [ true ↦ (λ h. refl) | false ↦ (λ h. cc) ]
-  same_payload m (payload.Err e) = elim after as (λ b. ends_alone (last_item_of_payload needs b m (payload.Err e)) ≡ false
-      → last_item_of_payload needs b m (payload.Err e) ≡ Ok m) [ true ↦ (λ h. cc) | false ↦ (λ h. cc) ]
-  same_payload m (payload.Capped e) = elim after as (λ b. ends_alone (last_item_of_payload needs b m (payload.Capped e)) ≡ false
-      → last_item_of_payload needs b m (payload.Capped e) ≡ Ok m) [ true ↦ (λ h. cc) | false ↦ (λ h. cc) ]
-  same_payload m (payload.Payload e) = elim after as (λ b. ends_alone (last_item_of_payload needs b m (payload.Payload e)) ≡ false
-      → last_item_of_payload needs b m (payload.Payload e) ≡ Ok m) [ true ↦ (λ h. cc) | false ↦ (λ h. refl) ]
-  same_payload m (payload.DumpExtAck e) = elim after as (λ b. ends_alone (last_item_of_payload needs b m (payload.DumpExtAck e)) ≡ false
-      → last_item_of_payload needs b m (payload.DumpExtAck e) ≡ Ok m) [ true ↦ (λ h. cc) | false ↦ (λ h. refl) ]
-  same_payload m payload.Empty = elim after as (λ b. ends_alone (last_item_of_payload needs b m payload.Empty) ≡ false
-      → last_item_of_payload needs b m payload.Empty ≡ Ok m) [ true ↦ (λ h. cc) | false ↦ (λ h. refl) ]
-
-  same_item : (x : Item K P) → ends_alone (last_item needs after x) ≡ false → last_item needs after x ≡ x
-  same_item (Ok m) h = same_payload m m.payload h
-  same_item (Err e) h = cc
-
-  module _ (number_of : K → ℕ) (numbered : Bool) where
-    -- two items of which one is given at the end and the other before it are the same
-    one_ends : (a b : Item K P) → ends_at number_of needs numbered after a ≡ true
-        → ends_at number_of needs numbered after b ≡ false
-        → item_of number_of needs numbered after a ≡ item_of number_of needs numbered after b → a ≡ b
-    one_ends a b ea eb same =
-        let given : last_item needs after a ≡ b = rw (ea, eb) at same in
-        let alone : ends_alone b ≡ false = left_false (ends_alone b) _ eb in
-        sym (same_item a (ap (λ (x : Item K P). ends_alone x) given ∙ alone)) ∙ given
-
-    -- so what is given says whether the answers end there
-    pub same_ends : (a b : Item K P)
-        → item_of number_of needs numbered after a ≡ item_of number_of needs numbered after b
-        → ends_at number_of needs numbered after a ≡ ends_at number_of needs numbered after b
-    same_ends a b same = elim (true_or_false (ends_at number_of needs numbered after a)) [
-      | inl ea ↦ (elim (true_or_false (ends_at number_of needs numbered after b)) [
-        | inl eb ↦ ea ∙ sym eb
-        | inr eb ↦ ap (λ (x : Item K P). ends_at number_of needs numbered after x) (one_ends a b ea eb same)
-      ])
-      | inr ea ↦ (elim (true_or_false (ends_at number_of needs numbered after b)) [
-        | inl eb ↦ ap (λ (x : Item K P). ends_at number_of needs numbered after x) (sym (one_ends b a eb ea (sym same)))
-        | inr eb ↦ ea ∙ sym eb
-      ])
-    ]
-
   -- no item says that memory ran out, unless its delivery was read so
   payload_has_memory : (m : Nlmsghdr K P) (p : NlPayload K P)
       → last_item_of_payload needs after m p ≢ Err router.Memory
@@ -134,49 +84,28 @@ inner e = cc
 
 module _ {K P V : Type 0} (type_of : ℕ → K) (number_of : K → ℕ) (view : P → V) (size : P → ℕ) (read : List ℕ
     → Result V DeError) (s t : Stand) (x : Item K P) where
-  abbrev number : Bool
-  number = has_number s.handle.number
-
   -- the item by the first delivery, and reading then
   abbrev pub Given : Delivery → List Delivery → Type 0
   Given d ds =
       (item : Item K P) × IsReading type_of view size read d item
-      × (reply.Item x ≡ reply.Item (item_of number_of s.handle.needs_ack number s.handle.single_given item))
-      × (t.waits ≡ Some ds)
-      × (t.handle ≡ record s.handle {
-        single_given = s.handle.single_given || is_single number_of number item;
-        ended = ends_at number_of s.handle.needs_ack number s.handle.single_given item;
-      })
+      × (reply.Item x ≡ reply.Item (item_for number_of s.handle item))
+      × (t.waits ≡ Some ds) × (t.handle ≡ handle_after number_of s.handle item)
+      × (t.heard ≡ known_after number_of s.handle d item s.heard)
 
-  -- and what is known of the answer then
-  abbrev pub Known : Delivery → Type 0
-  Known d =
-      (item : Item K P) × IsReading type_of view size read d item
-      × (reply.Item x ≡ reply.Item (item_of number_of s.handle.needs_ack number s.handle.single_given item))
-      × (t.heard ≡ option_map (heard_with number_of s.handle.needs_ack number s.handle.single_given d item) s.heard)
-
-  by_first : (d : Delivery) (ds : List Delivery) → Given d ds → Known d
+  by_first : (d : Delivery) (ds : List Delivery) → Given d ds
       → Gives type_of number_of view size read s.handle (Some (d ∷ ds)) s.heard x t
-  by_first d ds given known =
-      let item = given.0 in
-      let also = known.0 in
-      let needs = s.handle.needs_ack in
-      let after = s.handle.single_given in
-      let is : x ≡ item_of number_of needs number after item = inner given.2 in
-      let too : x ≡ item_of number_of needs number after also = inner known.2 in
-      let ends : ends_at number_of needs number after also ≡ ends_at number_of needs number after item =
-      same_ends needs after number_of number also item (sym too ∙ is) in
-      let given_same : item_of number_of needs number after also ≡ item_of number_of needs number after item =
-      sym too ∙ is in
-      let heard : t.heard ≡ option_map (heard_with number_of needs number after d item) s.heard =
-      known.3 ∙ ap₂ (λ (b : Bool) (y : Item K P). option_map (heard_after b (heading_of d) y) s.heard) ends given_same in
-      (item, given.1, is, same_stand t (stand_after number_of s.handle d ds s.heard item) given.4 given.3 heard)
+  by_first d ds given = (
+    given.0,
+    given.1,
+    inner given.2,
+    same_stand t (stand_after number_of s.handle d ds s.heard given.0) given.4 given.3 given.5,
+  )
 
   by_waits : (waits : Option (List Delivery)) → s.waits ≡ waits
       → (s.waits ≡ None → (reply.Item x ≡ reply.Item (Err router.ClosedChannel))
       × (t.handle ≡ record s.handle { ended = true }) × (t.waits ≡ None) × (t.heard ≡ s.heard))
       → (s.waits ≡ Some [] → reply.Item x ≡ reply.Waits)
-      → ((d : Delivery) (ds : List Delivery) → s.waits ≡ Some (d ∷ ds) → Given d ds × Known d)
+      → ((d : Delivery) (ds : List Delivery) → s.waits ≡ Some (d ∷ ds) → Given d ds)
       → Gives type_of number_of view size read s.handle waits s.heard x t
   by_waits None same closed none gives =
       let c = closed same in (
@@ -185,17 +114,17 @@ module _ {K P V : Type 0} (type_of : ℕ → K) (number_of : K → ℕ) (view : 
             c.1 c.2 c.3,
       )
   by_waits (Some []) same closed none gives = absurd (let bad = none same in cc)
-  by_waits (Some (d ∷ ds)) same closed none gives = by_first d ds (gives d ds same).0 (gives d ds same).1
+  by_waits (Some (d ∷ ds)) same closed none gives = by_first d ds (gives d ds same)
 
   number_by : (waits : Option (List Delivery)) → s.waits ≡ waits
       → (s.waits ≡ None → (reply.Item x ≡ reply.Item (Err router.ClosedChannel))
       × (t.handle ≡ record s.handle { ended = true }) × (t.waits ≡ None) × (t.heard ≡ s.heard))
       → (s.waits ≡ Some [] → reply.Item x ≡ reply.Waits)
-      → ((d : Delivery) (ds : List Delivery) → s.waits ≡ Some (d ∷ ds) → Given d ds × Known d)
+      → ((d : Delivery) (ds : List Delivery) → s.waits ≡ Some (d ∷ ds) → Given d ds)
       → t.handle.number ≡ s.handle.number
   number_by None same closed none gives = ap (λ (h : HandleState). h.number) (closed same).1
   number_by (Some []) same closed none gives = absurd (let bad = none same in cc)
-  number_by (Some (d ∷ ds)) same closed none gives = ap (λ (h : HandleState). h.number) (gives d ds same).0.4
+  number_by (Some (d ∷ ds)) same closed none gives = ap (λ (h : HandleState). h.number) (gives d ds same).4
 
 module _ {K P V : Type 0} (type_of : ℕ → K) (number_of : K → ℕ) (view : P → V) (size : P → ℕ) (read : List ℕ
     → Result V DeError) where
@@ -207,9 +136,7 @@ module _ {K P V : Type 0} (type_of : ℕ → K) (number_of : K → ℕ) (view : 
       → (h.ended ≡ false → pending h.number ≡ Some [] → reply.Item x ≡ reply.Waits)
       → (h.ended ≡ false → (d : Delivery) (ds : List Delivery) → pending h.number ≡ Some (d ∷ ds)
       → Given type_of number_of view size read (standing h pending heard)
-      (record { handle = h'; waits = pending' h.number; heard = heard' h.number }) x d ds
-      × Known type_of number_of view size read (standing h pending heard)
-      (record { handle = h'; waits = pending' h.number; heard = heard' h.number }) x d)
+      (record { handle = h'; waits = pending' h.number; heard = heard' h.number }) x d ds)
       → IsRead type_of number_of view size read (standing h pending heard) x (standing h' pending' heard')
       × (h'.number ≡ h.number)
   read_is h h' pending pending' heard heard' x ended closed none gives = elim (true_or_false h.ended) [
@@ -279,6 +206,20 @@ module _ {K P : Type 0} (r : Reply K P) (Same : Type 0) (not : (x : Item K P) �
     | inr e ↦ (let k = none_by waits waits refl (closed e) (none e) (gives e) in (k.0, inr k.1))
   ]
 
+-- a read of the next item whose result is an item, as one `Result`
+module _ {K P V D : Type 0} (type_of : ℕ → K) (number_of : K → ℕ) (view : P → V) (size : P → ℕ) (read : List ℕ
+    → Result V DeError) (pending : D → Option ℕ → Option (List Delivery)) (d : Delivery) (ds : List Delivery)
+    (h h' : HandleState) (before after : NlRouter D) where
+  pub next_given : (r : Reply K P) (x y : Item K P) → r ≡ reply.Item x → x ≡ y
+      → IsNextRead type_of number_of view size read pending d ds h h' before after (λ i. reply.Item i) r
+      → IsNextRead type_of number_of view size read pending d ds h h' before after (λ i. next_of i) (next_of y)
+  next_given r x y is same k = record {
+    x = k.x;
+    is_read = k.is_read;
+    is_given = ap (λ (i : Item K P). next_of i) (sym same ∙ inner (sym is ∙ k.is_given));
+    goes = k.goes;
+  }
+
 pub ok_same : {A E : Type 0} {x y : A} → ◌≡◌ {A = Result A E} (Ok x) (Ok y) → x ≡ y
 ok_same e = cc
 
@@ -292,9 +233,11 @@ module _ {D A : Type 0} (port_of : D → ℕ) (pending : D → Option ℕ → A)
   rest_on h t u r s v a b = (
     b.0 ∙ a.0,
     b.1 ∙ a.1,
-    b.2 ∙ a.2,
-    b.3 ∙ a.3,
-    b.4 ∙ a.4,
-    (λ w not. b.5 w (λ e. not (e ∙ a.4)) ∙ a.5 w not),
-    λ w not. b.6 w (λ e. not (e ∙ a.4)) ∙ a.6 w not,
+    record {
+      port = b.2.port ∙ a.2.port;
+      next_seq = b.2.next_seq ∙ a.2.next_seq;
+      missed = b.2.missed ∙ a.2.missed;
+      lists = λ w not. b.2.lists w (λ e. not (e ∙ a.0)) ∙ a.2.lists w not;
+      heard = λ w not. b.2.heard w (λ e. not (e ∙ a.0)) ∙ a.2.heard w not;
+    },
   )

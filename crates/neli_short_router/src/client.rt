@@ -1,6 +1,6 @@
 //! The calls.
 
-ghost use Rattle.std.specs.Prelude.{true, false, ◌≡◌, ◌≢◌, ◌<◌, ◌||◌, ℕ, List, [], ◌∷◌, ◌++◌, None, Some, Ok, Err, IsOk, IfOk};
+ghost use Rattle.std.specs.Prelude.{true, false, ◌≡◌, ◌≢◌, ◌<◌, ℕ, List, [], ◌∷◌, ◌++◌, None, Some, Ok, Err, IsOk, IfOk};
 ghost use Rattle.std.specs.Prelude.{IfErr, Option, OnOk, OnErr, is_some, option_map, if◌then◌else◌, vec_len, vec_capacity};
 ghost use Rattle.neli_answers.specs.Answers.{answering_by_flags};
 ghost use Rattle.neli_reader.specs.Agreement.{untyped_layout};
@@ -11,11 +11,12 @@ ghost use Rattle.neli_util.specs.Groups.{without_zeros};
 ghost use Rattle.neli_deliveries.specs.Lists.{Opens, SameLists, SameListsBut};
 ghost use Rattle.neli_deliveries.specs.declared.delivery.Delivery.{Delivery as Waiting};
 ghost use Rattle.neli_deliveries.specs.Deliveries.{datagram_share};
-ghost use Rattle.neli_deliveries.specs.Readings.{IsReading, Item as Given, ReadingTakesMemory};
+ghost use Rattle.neli_deliveries.specs.Readings.{Item as Given, ReadingTakesMemory};
 ghost use Rattle.neli_router.specs.GivenUp.{has_end, is_given_up, still_open, ungrouped};
-ghost use Rattle.neli_router.specs.Rule.{ends_at, has_number, is_single, item_of};
+ghost use Rattle.neli_router.specs.Reads.{IsNextRead};
+ghost use Rattle.neli_router.specs.Same.{SameButDeliveries, SameButHandle, SameButRequest};
 ghost use Rattle.neli_router.specs.Sends.{RefusesSend, TakesMemory, asks, frame_or_refusal, number_after};
-ghost use Rattle.neli_router.specs.Verdicts.{begun, heard_of, heard_with, verdict_by};
+ghost use Rattle.neli_router.specs.Verdicts.{begun, heard_of, verdict_by};
 ghost use Rattle.neli_short_router.specs.Next.{next_of};
 ghost use Rattle.neli_short_router.specs.Reads.{AreReads, HasNoItem, IsRead, LeavesRest, standing};
 ghost use Rattle.neli_short_router.specs.declared.next.Next.TheVariants as next;
@@ -132,7 +133,7 @@ impl<D: Deliveries> Client for NlRouter<D> {
         nl_flags: NlmF,
         body: P,
     ) -> Result<Request<T, P>, RouterError<T, P>>
-        ensures port { D.port_of self.new.deliveries ≡ D.port_of self.old.deliveries }
+        ensures same { SameButRequest D.port_of self.old self.new }
         ensures bytes { IfOk result (λ r. frame_or_refusal
             T.wire_number P.wire P.Size.wire_length
             (D.port_of self.old.deliveries) self.old.next_seq
@@ -158,8 +159,6 @@ impl<D: Deliveries> Client for NlRouter<D> {
             × (SameLists (D.pending self.old.deliveries) (D.pending self.new.deliveries))) }
         ensures unheard { OnErr result
             (SameLists (heard_of self.old.heard) (heard_of self.new.heard)) }
-        ensures given_up { self.new.given_up ≡ self.old.given_up }
-        ensures missed { self.new.missed ≡ self.old.missed }
     {
         let (bytes, handle) = self.send(alloc, nl_type, nl_flags, NlPayload::Payload(body))?;
         Ok(Request { bytes, handle })
@@ -171,9 +170,7 @@ impl<D: Deliveries> Client for NlRouter<D> {
         datagram: &[u8],
         groups: &[u32],
     ) -> Result<(), NoMemory>
-        ensures port { D.port_of self.new.deliveries ≡ D.port_of self.old.deliveries }
-        ensures next_seq { self.new.next_seq ≡ self.old.next_seq }
-        ensures heard { self.new.heard ≡ self.old.heard }
+        ensures same { SameButDeliveries D.port_of self.old self.new }
         ensures missed { self.new.missed ≡ self.old.missed }
         ensures others { OnOk result ((w : Option ℕ)
             → is_given_up self.old.given_up.items w ≡ false
@@ -203,8 +200,7 @@ impl<D: Deliveries> Client for NlRouter<D> {
         alloc: Global,
         handle: &mut NlRouterReceiverHandle<T, P>,
     ) -> Result<Next<T, P>, RouterError<T, P>>
-        ensures port { D.port_of self.new.deliveries ≡ D.port_of self.old.deliveries }
-        ensures next_seq { self.new.next_seq ≡ self.old.next_seq }
+        ensures same { SameButHandle D.port_of D.pending handle.old.number self.old self.new }
         ensures ended { handle.old.ended ≡ true
             → (result ≡ Ok next.End) × (handle.new ≡ handle.old) × (self.new ≡ self.old) }
         ensures closed { handle.old.ended ≡ false
@@ -216,39 +212,15 @@ impl<D: Deliveries> Client for NlRouter<D> {
             → (result ≡ Ok next.Waits) × (handle.new ≡ handle.old) × (self.new ≡ self.old) }
         ensures gives { handle.old.ended ≡ false → (d : Waiting) (ds : List Waiting)
             → D.pending self.old.deliveries handle.old.number ≡ Some (d ∷ ds)
-            → result ≢ Err RouterError.Memory → (item : Given T P)
-            × IsReading T.wire_value P.view P.wire_length P.read d item
-            × (result ≡ next_of (item_of T.wire_number handle.old.needs_ack
-            (has_number handle.old.number) handle.old.single_given item))
-            × (D.pending self.new.deliveries handle.old.number ≡ Some ds)
-            × (handle.new ≡ record handle.old {
-              single_given = handle.old.single_given
-                  || is_single T.wire_number (has_number handle.old.number) item;
-              ended = ends_at T.wire_number handle.old.needs_ack
-                  (has_number handle.old.number) handle.old.single_given item;
-            }) }
-        ensures others { SameListsBut handle.old.number
-            (D.pending self.old.deliveries) (D.pending self.new.deliveries) }
+            → result ≢ Err RouterError.Memory
+            → IsNextRead T.wire_value T.wire_number P.view P.wire_length P.read
+            D.pending d ds handle.old handle.new self.old self.new (λ x. next_of x) result }
         ensures unchanged { result ≡ Err RouterError.Memory
             → (handle.new ≡ handle.old) × (self.new ≡ self.old) }
         ensures memory { handle.old.ended ≡ false → (d : Waiting) (ds : List Waiting)
             → D.pending self.old.deliveries handle.old.number ≡ Some (d ∷ ds)
             → result ≡ Err RouterError.Memory → ReadingTakesMemory P.takes_memory d }
-        // Beside `gives`: what that item adds for `verdict`.
-        ensures heard { handle.old.ended ≡ false → (d : Waiting) (ds : List Waiting)
-            → D.pending self.old.deliveries handle.old.number ≡ Some (d ∷ ds)
-            → result ≢ Err RouterError.Memory → (item : Given T P)
-            × IsReading T.wire_value P.view P.wire_length P.read d item
-            × (result ≡ next_of (item_of T.wire_number handle.old.needs_ack
-            (has_number handle.old.number) handle.old.single_given item))
-            × (heard_of self.new.heard handle.old.number
-            ≡ option_map (heard_with T.wire_number handle.old.needs_ack
-            (has_number handle.old.number) handle.old.single_given d item)
-            (heard_of self.old.heard handle.old.number)) }
-        ensures unheard { SameListsBut handle.old.number
-            (heard_of self.old.heard) (heard_of self.new.heard) }
         ensures given_up { self.new.given_up ≡ self.old.given_up }
-        ensures missed { self.new.missed ≡ self.old.missed }
     {
         match self.next_typed(alloc, handle)? {
             Reply::Item(Ok(message)) => Ok(Next::Message(message)),
@@ -284,15 +256,7 @@ impl<D: Deliveries> Client for NlRouter<D> {
         alloc: Global,
         handle: &mut NlRouterReceiverHandle<T, P>,
     ) -> Result<Dump<T, P>, NoMemory>
-        ensures port { D.port_of self.new.deliveries ≡ D.port_of self.old.deliveries }
-        ensures next_seq { self.new.next_seq ≡ self.old.next_seq }
-        ensures given_up { self.new.given_up ≡ self.old.given_up }
-        ensures missed { self.new.missed ≡ self.old.missed }
-        ensures number { handle.new.number ≡ handle.old.number }
-        ensures others { SameListsBut handle.old.number
-            (D.pending self.old.deliveries) (D.pending self.new.deliveries) }
-        ensures unheard { SameListsBut handle.old.number
-            (heard_of self.old.heard) (heard_of self.new.heard) }
+        ensures rest { LeavesRest D.port_of D.pending handle.old handle.new self.old self.new }
         ensures reads { (given : List (Given T P))
             × AreReads T.wire_value T.wire_number P.view P.wire_length P.read
             (standing handle.old (D.pending self.old.deliveries) (heard_of self.old.heard)) given

@@ -32,20 +32,12 @@ given g c =
     )))
     (λ a n. sym is ∙ ok_same (c.in_ok-item.ensures.waits a n).0)
     (λ a d ds n. (let k = c.in_ok-item.ensures.gives a d ds n in
-    let j = c.in_ok-item.ensures.heard a d ds n in
-    ((k.0, k.1, sym is ∙ k.2, k.3, k.4), (j.0, j.1, sym is ∙ j.2, j.3))))
+    (k.x, k.is_read, sym is ∙ k.is_given, k.goes.waits, k.goes.handle, k.goes.heard)))
 
 pub returns-in-Item-clause-rest : goal.returns-in-Item-clause-rest
 returns-in-Item-clause-rest g c =
-    let of = c.in_ok-item.ensures in (
-      of.port,
-      of.next_seq,
-      of.given_up,
-      of.missed,
-      (given g (goal.at.returns-in-Item-clause-rest g c).After-put).1,
-      of.others,
-      of.unheard,
-    )
+    let of = c.in_ok-item.ensures in
+    ((given g (goal.at.returns-in-Item-clause-rest g c).After-put).1, of.given_up, of.same)
 
 pub returns-in-Item-clause-read : goal.returns-in-Item-clause-read
 returns-in-Item-clause-read g c = λ yes. (
@@ -71,13 +63,13 @@ nothing g c =
     (λ a. (let k = c.in_ok-item.ensures.ended a in (k.1, k.2)))
     (λ a n. (Err router.ClosedChannel, ok_same (c.in_ok-item.ensures.closed a n).0))
     (λ a n. (let k = c.in_ok-item.ensures.waits a n in (k.1, k.2)))
-    (λ a d ds n. (let k = c.in_ok-item.ensures.gives a d ds n in (_, k.2)))
+    (λ a d ds n. (let k = c.in_ok-item.ensures.gives a d ds n in (_, k.is_given)))
 
 pub returns-in-End-clause-rest : goal.returns-in-End-clause-rest
 returns-in-End-clause-rest g c =
     let of = c.in_ok-item.ensures in
     let same = (nothing g (goal.at.returns-in-End-clause-rest g c).In-End).0.0 in
-    (of.port, of.next_seq, of.given_up, of.missed, rw same refl, of.others, of.unheard)
+    (rw same refl, of.given_up, of.same)
 
 pub returns-in-End-clause-unchanged : goal.returns-in-End-clause-unchanged
 returns-in-End-clause-unchanged g c = λ no.

@@ -11,5 +11,5 @@ returns-in-Ok-clause-given_up c =
       handles = c.free.new.handles;
       freed = c.free.new.freed;
       held = s.held;
-    }) c.in-Some.handle c.in-Some.ensures.taken (λ e. (r.multicast e).1) (λ e. (r.closed e).1) r.ok r.others r.heard
-    (c.in-Some.ensures.some refl) (c.in-Some.ensures.first refl) (c.in-Some.ensures.multicast refl) r.port r.next_seq refl
+    }) c.in-Some.handle c.in-Some.ensures.taken (λ e. (r.multicast e).1) (λ e. (r.closed e).1) r.ok r.same.lists r.same.heard
+    (c.in-Some.ensures.some refl) (c.in-Some.ensures.first refl) (c.in-Some.ensures.multicast refl) r.same.port r.same.next_seq refl

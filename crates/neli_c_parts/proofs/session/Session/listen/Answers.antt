@@ -13,5 +13,5 @@ returns c =
       handles = s.handles;
       freed = s.freed;
       held = c.notice.new.held;
-    }) _ _ _ _ code c.notice.ensures.held r.missed r.closed r.waits r.gives r.others r.unchanged r.port r.next_seq r.heard r.given_up
-    refl refl
+    }) _ _ _ _ code c.notice.ensures.held r.missed r.closed r.waits r.gives r.others r.unchanged r.same.port r.same.next_seq
+    r.same.heard r.given_up refl refl

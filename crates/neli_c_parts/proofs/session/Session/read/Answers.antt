@@ -25,7 +25,7 @@ returns-clause-some c =
         handles = c.take.new.handles;
         freed = s.freed;
         held = c.hold.new.held;
-      }) _ _ _ _ code c.hold.ensures.held r.port r.next_seq r.ended r.closed r.waits r.gives r.others r.unchanged,
+      }) _ _ _ _ code c.hold.ensures.held r.ended r.closed r.waits r.gives r.same r.unchanged,
     )
 
 pub returns-clause-heard : goal.returns-clause-heard
@@ -40,4 +40,4 @@ returns-clause-heard c =
       handles = c.take.new.handles;
       freed = s.freed;
       held = c.hold.new.held;
-    }) _ r.heard r.unheard r.given_up r.unchanged)
+    }) _ r.gives r.same.heard r.given_up r.unchanged)

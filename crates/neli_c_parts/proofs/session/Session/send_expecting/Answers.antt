@@ -37,7 +37,7 @@ returns-in-Ok-send_expecting-clause-sent c = λ e.
       r.next_seq,
       r.opened.0,
       r.opened.1,
-      r.port,
+      r.same.port,
       refl,
       r.heard.0,
       r.heard.1,
@@ -87,7 +87,7 @@ returns-in-Err-clause-needed c = λ ne.
 
 pub returns-in-Err-clause-refused : goal.returns-in-Err-clause-refused
 returns-in-Err-clause-refused c = λ ne. (
-  c.in-Err.ensures.port,
+  c.in-Err.ensures.same.port,
   c.in-Err.ensures.unchanged.0,
   c.in-Err.ensures.unchanged.1,
   refl,

@@ -32,7 +32,7 @@ returns-else-is_empty-clause-given_up g c = λ q is.
     (g.D.Deliveries.pending c.settle-else-is_empty.new.self.deliveries (Some q))
     (g.D.Deliveries.pending mid.deliveries (Some q)) (g.D.Deliveries.pending old.deliveries (Some q))
     (datagram_share port (λ n. is_some (g.D.Deliveries.pending old.deliveries (Some n))) (Some q)
-    (cut_of untyped_layout c.args.bytes.now) c.args.groups.now) c.in_ok-processing_loop.ensures.port
+    (cut_of untyped_layout c.args.bytes.now) c.args.groups.now) c.in_ok-processing_loop.ensures.same.port
     (rw c.in_ok-processing_loop.ensures.given_up refl) (c.settle-else-is_empty.ensures.kept (Some q))
     (c.in_ok-processing_loop.ensures.ok (Some q)) no-messages-there
     (λ e. (let yes = c.is_empty.ensures.1 e in let no = c.if-is_empty.false in cc)) is

@@ -20,4 +20,5 @@ returns-in-Some-clause-goes g c =
     (g.D.Deliveries.port_of c.args.self.now.router.deliveries) c.args.self.now.router.next_seq c.close.new.self.next_seq
     c.args.k (g.D.Deliveries.pending c.args.self.now.router.deliveries)
     (g.D.Deliveries.pending c.close.new.self.deliveries) c.args.self.now.handles.items c.take.new.handles.items
-    c.in-Some.handle some.0 some.1 c.close.ensures.next_seq c.close.ensures.closed c.close.ensures.others
+    c.in-Some.handle some.0 some.1 c.close.ensures.same.next_seq c.close.ensures.closed
+    c.close.ensures.same.lists

@@ -31,12 +31,13 @@ returns-in_ok-reply-in-Some-clause-goes g c =
     (g.D.Deliveries.pending c.args.self.now.router.deliveries)
     (g.D.Deliveries.pending c.next_typed.new.self.deliveries) c.args.self.now.handles.items c.take.new.handles.items
     c.put.new.handles.items c.in-Some.found c.next_typed.new.handle c.in_ok-reply-in-Some.reply c.outcome_of.result
-    some.0 some.1 c.put.ensures c.outcome_of.ensures e.next_seq
+    some.0 some.1 c.put.ensures c.outcome_of.ensures e.same.next_seq
     (λ over. let t = e.ended over in ((let f = t.0 in cc), t.1, ap (λ r. g.D.Deliveries.pending r.deliveries) t.2))
     (λ still none. let t = e.waits still none in (
       (let f = t.0 in cc),
       t.1,
       ap (λ r. g.D.Deliveries.pending r.deliveries) t.2,
     ))
-    e.gives
-    e.others
+    (λ still d ds first. (let k = e.gives still d ds first in
+    (k.x, k.is_read, k.is_given, k.goes.waits, k.goes.handle)))
+    e.same.lists

@@ -20,7 +20,7 @@ returns-in_ok-push-in-Ok-clause-goes g c =
 
 pub returns-in_default : goal.returns-in_default
 returns-in_default g c = record {
-  port = c.in-Err.ensures.port;
+  port = c.in-Err.ensures.same.port;
   goes = (goes_unsent g.RT.Constant.wire_value g.RT.Constant.wire_number g.RP.FromBytesWithInput.view
       g.RP.Size.wire_length g.RP.FromBytesWithInput.read g.ST.Constant.wire_number g.SP.ToBytes.wire
       g.SP.Size.wire_length

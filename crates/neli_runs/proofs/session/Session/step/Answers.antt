@@ -5,7 +5,7 @@ use Rattle.neli_runs.proofs.session.Session.step.Goals as goal
 
 pub returns-in_ok-processing_loop-in-Datagram-clause-goes : goal.returns-in_ok-processing_loop-in-Datagram-clause-goes
 returns-in_ok-processing_loop-in-Datagram-clause-goes g c =
-    rw (c.in-Datagram.is, c.in_ok-processing_loop-in-Datagram.ensures.next_seq)
+    rw (c.in-Datagram.is, c.in_ok-processing_loop-in-Datagram.ensures.same.next_seq)
     (goes_handed g.RT.Constant.wire_value g.RT.Constant.wire_number g.RP.FromBytesWithInput.view g.RP.Size.wire_length
     g.RP.FromBytesWithInput.read g.ST.Constant.wire_number g.SP.ToBytes.wire g.SP.Size.wire_length
     (g.D.Deliveries.port_of c.args.self.now.router.deliveries) c.args.self.now.router.next_seq
@@ -16,7 +16,7 @@ returns-in_ok-processing_loop-in-Datagram-clause-goes g c =
 
 pub returns-in_ok-error_handling-in-Fault-clause-goes : goal.returns-in_ok-error_handling-in-Fault-clause-goes
 returns-in_ok-error_handling-in-Fault-clause-goes g c =
-    rw (c.in-Fault.is, c.in_ok-error_handling-in-Fault.ensures.next_seq)
+    rw (c.in-Fault.is, c.in_ok-error_handling-in-Fault.ensures.same.next_seq)
     (goes_handed g.RT.Constant.wire_value g.RT.Constant.wire_number g.RP.FromBytesWithInput.view g.RP.Size.wire_length
     g.RP.FromBytesWithInput.read g.ST.Constant.wire_number g.SP.ToBytes.wire g.SP.Size.wire_length
     (g.D.Deliveries.port_of c.args.self.now.router.deliveries) c.args.self.now.router.next_seq
