@@ -319,9 +319,9 @@ int main(void) {
     CHECK(neli_session_new(&session, 0, PORT, true) == NELI_OK && neli_session_new(&session, 0, 1, true) == NELI_STATE);
     check_turns(&session);
     check_losses(&session);
+    check_ready(&session);
     check_others(&session);
     check_written(&session);
-    check_ready(&session);
     CHECK(neli_session_free(&session) == NELI_OK && neli_session_free(&session) == NELI_OK);
     CHECK(neli_session_quiet(&session) == NELI_STATE);
     printf("session.c: %s\n", failures == 0 ? "each call answers as include/neli.h says" : "failed");
