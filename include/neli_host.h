@@ -143,6 +143,17 @@ int32_t neli_host_lend(struct neli_host *host, size_t handle, struct neli_lent *
  * of reads may take turns. NELI_HANDLE if the handle is not open, or is NELI_HOST_UNASKED. */
 int32_t neli_host_pass(struct neli_host *host, size_t handle);
 
+/* Takes in all that has arrived, for every handle, and sends what may go out then; it does not wait. A loop over poll(2)
+ * or epoll, by level or by edge, calls it when the socket is readable, and then reads what `neli_host_ready` finds.
+ * NELI_LINK if the socket failed again and again, and with EAGAIN or ECANCELED if more still arrives when the time of a
+ * wait is over, or the waits are stopped; at these and at NELI_MEMORY nothing is lost, and the next call goes on. */
+int32_t neli_host_take_in(struct neli_host *host);
+
+/* Finds a handle whose read returns at once: of the requests, in turn, the first that has an item, a loss or its end, so
+ * close those that have ended; else that of multicast, or NELI_HOST_UNASKED. It looks at no socket. False if there is
+ * none; then `handle` is as it was. */
+bool neli_host_ready(struct neli_host *host, size_t *handle);
+
 /* Whether a read of a handle returns at once, as after `neli_host_stop` too; it looks at no socket. A loop over poll(2) sets a wait of 0, sends, reads
  * each handle until the wait has ended (EAGAIN), and sleeps only if none is ready: what one read took in may be another
  * handle's. */

@@ -228,6 +228,19 @@ int32_t neli_host_pass(struct neli_host *host, size_t handle) {
     return code;
 }
 
+bool neli_host_ready(struct neli_host *host, size_t *handle) {
+    static const size_t others[] = {NELI_MULTICAST, NELI_HOST_UNASKED};
+    uint32_t number;
+    if (host == NULL || handle == NULL) return false;
+    bool is_found = neli_session_ready(&host->session, &number) == NELI_ITEM;
+    if (is_found) *handle = handle_of(number);
+    for (int i = 0; i < 2 && !is_found; i++) {
+        is_found = neli_session_is_ready(&host->session, reader_of(others[i]), 0) == NELI_ITEM;
+        if (is_found) *handle = others[i];
+    }
+    return is_found;
+}
+
 bool neli_host_is_ready(struct neli_host *host, size_t handle) {
     struct neli_lent lent;
     if (host == NULL) return false;

@@ -84,16 +84,20 @@ const uint8_t *neli_host_datagram(const struct neli_host *host) {
 
 /* ---- Lists ---- */
 
-/* Drops what came for groups, until the link was seen empty. */
-static int32_t drop_multicast(struct neli_host *host) {
+/* Takes in all that has arrived, until the link was seen empty, and drops what came for groups if told to. */
+static int32_t take_in(struct neli_host *host, bool drops) {
     int64_t end = link_end_of_wait(&host->link);
     int32_t code;
     do {
         code = host_take_in(host);
-        host_drop(host, NELI_READER_MULTICAST);
+        if (drops) host_drop(host, NELI_READER_MULTICAST);
         if (code == NELI_OK) code = link_goes_on(&host->link, end);
     } while (code == NELI_OK);
     return code == NELI_WAITS ? NELI_OK : code;
+}
+
+int32_t neli_host_take_in(struct neli_host *host) {
+    return host != NULL ? take_in(host, false) : NELI_NULL;
 }
 
 /* Whether a list with this result may be complete when it is requested again. */
@@ -133,7 +137,7 @@ static int32_t take_all(struct neli_host *host, const struct neli_dump *dumps, s
         if (dumps[i].take == NULL || !neli_is_slice(dumps[i].body, dumps[i].length)) return NELI_NULL;
     for (int times = 1;; times++) {
         size_t taken = 0;
-        int32_t code = drops ? drop_multicast(host) : NELI_OK;
+        int32_t code = drops ? take_in(host, true) : NELI_OK;
         if (code != NELI_OK) return code;
         while (taken < count && code == NELI_OK) code = take_dump(host, &dumps[taken++], last, &verdict);
         if (code == NELI_OK || times >= dumps[taken - 1].times || !is_passing(host, code, &verdict)) return code;

@@ -122,6 +122,42 @@ static void a_loop_that_never_sleeps_on_an_item(void) {
     neli_host_close(host);
 }
 
+/* The same by what is ready, whatever it is: dumps, a question and notifications, in turn. */
+static void a_loop_over_what_is_ready(void) {
+    struct neli_host *host = route_host(true), *other = route_host(false);
+    struct pollfd socket = {.fd = neli_host_fd(host), .events = POLLIN};
+    struct neli_message message;
+    make_pairs(other, MANY);
+    WANT(neli_host_take_in(host) == NELI_OK);
+    host_drop(host, NELI_READER_MULTICAST);
+    size_t handle = 4711, handles[] = {send_dump(host), send_dump(host), send_question(host, 1)};
+    int counts[3] = {0}, news = 0, ended = 0;
+    WANT(!neli_host_ready(host, &handle) && handle == 4711 && !neli_host_ready(NULL, &handle));
+    WANT(!neli_host_ready(host, NULL) && neli_host_take_in(NULL) == NELI_NULL);
+    done(other, RTM_SETLINK, 0, link_body(1, true));
+    while (ended < 3 || news == 0) {
+        WANT(poll(&socket, 1, 3000) == 1);
+        WANT(neli_host_take_in(host) == NELI_OK);
+        while (neli_host_ready(host, &handle)) {
+            int32_t code = neli_host_next(host, handle, &message);
+            news += handle == NELI_MULTICAST;
+            for (int i = 0; i < 3; i++) counts[i] += handle == handles[i] && code == NELI_ITEM;
+            if (code != NELI_END) continue;
+            WANT(neli_host_close_request(host, handle) == NELI_OK);
+            ended++;
+        }
+    }
+    /* Each dump has the links and its end, the question a link and an acknowledgement. */
+    WANT(counts[0] == counts[1] && counts[0] == 2 * MANY + 2 && counts[2] == 2);
+    WANT(neli_host_take_in(host) == NELI_OK && !neli_host_ready(host, &handle));
+    neli_host_stop(host);
+    done(other, RTM_SETLINK, 0, link_body(1, false));
+    WANT(is_over(host, neli_host_take_in(host), ECANCELED) && neli_host_ready(host, &handle));
+    WANT(handle == NELI_MULTICAST);
+    neli_host_close(host);
+    neli_host_close(other);
+}
+
 /* A change without an acknowledgement has ended once nothing is left, without a datagram. */
 static void an_end_that_no_message_is(void) {
     struct neli_host *host = route_host(false);
@@ -141,6 +177,7 @@ static const struct test tests[] = {
     {"sent_without_a_pause", sent_without_a_pause},
     {"a_send_takes_nothing_in", a_send_takes_nothing_in},
     {"a_loop_that_never_sleeps_on_an_item", a_loop_that_never_sleeps_on_an_item},
+    {"a_loop_over_what_is_ready", a_loop_over_what_is_ready},
     {"an_end_that_no_message_is", an_end_that_no_message_is},
 };
 
