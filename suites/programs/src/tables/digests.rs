@@ -52,6 +52,6 @@ pub const SYSTEM: [(&str, &str, usize); 9] = [
     ("nftables", "21fc8dd959792d19fca13bad12f79168", 636),
     ("nlmsg", "5e35cfe9c9bc644dde56d25327f2facf", 42),
     ("proc_event", "1678759eae741493f225a6057956de6f", 145),
-    ("sock_diag", "80fb759beee739bb501aca21381eabdf", 356),
+    ("sock_diag", "8813f7c0f2181c18c38ec9ddf989596a", 358),
     ("xfrm", "39aa8bbccea00f46844d9d122c239687", 475),
 ];
