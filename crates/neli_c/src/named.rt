@@ -84,9 +84,7 @@ pub extern "C" fn neli_c_named_field(
     let Some(families) = tables.take(alloc) else {
         return STATE;
     };
-    let code = message_field(
-        &families, protocol, bytes, message, index, named, out, size,
-    );
+    let code = message_field(&families, protocol, bytes, message, index, named, out, size);
     tables.put(families);
     code
 }
