@@ -14,7 +14,7 @@ CUT = WHOLE + bytes.fromhex("ffff")
 LINES = b"RTM_NEWNSID length 28 flags 0 seq 1059 port 2207675113\n  rtgenmsg rtgen_family 0\n  NETNSA_NSID 1\n"
 FAULT = b"fault: at 28: the bytes end too early\n"
 with open(f"{TOP}/include/neli.h", encoding="utf-8") as header:
-    VERSION = f"neli_show {re.search(r'#define NELI_VERSION "(.*)"', header.read())[1]}\n".encode()
+    VERSION = b"neli_show " + re.search(r'#define NELI_VERSION "(.*)"', header.read())[1].encode() + b"\n"
 # What the program is given, and its exit status, output and standard error.
 ROWS = (
     ("messages alone", [], WHOLE, 0, LINES, b""),
