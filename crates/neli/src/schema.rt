@@ -13,7 +13,8 @@ pub use neli_tables::{
     is_set, options_of, prefix_of, unnamed_bits,
 };
 pub use neli_tables_check::{
-    PathText, Place, Refusal, Validation, Violation, Wrong, check, check_as, find, validation_of,
+    Diagnosis, PathText, Place, Refusal, Validation, Violation, Wrong, check, check_as, find,
+    validation_of,
 };
 pub use neli_tables_generic::GenericTable;
 pub use neli_tables_routing::RoutingTable;

@@ -1,4 +1,5 @@
 pub mod Cuts
+pub mod Diagnoses
 pub mod Offsets
 pub mod Parsers
 pub mod Paths

@@ -6,11 +6,14 @@
 //!   states it.
 //! - [`Place`], [`PathText`]: a path that is printed by the names of the table, as
 //!   `IFLA_LINKINFO.IFLA_INFO_DATA.IFLA_VLAN_ID`.
+//! - [`Diagnosis`]: an error of the kernel by the request that it refused: also the value as it was sent, what the policy
+//!   allows, and an attribute that is missing.
 //! - [`Refusal`]: an error of the kernel in one line: its name, the kernel's text, and the
 //!   attribute of the request that it is about.
 #![tactic(auto)]
 
 mod cut;
+mod diagnosis;
 mod found;
 mod listed;
 mod offset;
@@ -21,6 +24,7 @@ mod values;
 mod violation;
 mod wrong;
 
+pub use diagnosis::Diagnosis;
 pub use offset::find;
 pub use place::{PathText, Place};
 pub use refusal::Refusal;

@@ -33,7 +33,7 @@ pub fn find<'w, 't>(body: &Body<'_, 'w, 't>, offset: usize) -> Option<Place<'w, 
 }
 
 /// The offset of a body in its message.
-fn body_start(body: &Body<'_, '_, '_>) -> usize
+pub(crate) fn body_start(body: &Body<'_, '_, '_>) -> usize
     ensures { result ≡ body_start (body_view body.now) }
 {
     match body.generic {

@@ -60,7 +60,7 @@ fn place_of<'w, 't>(request: &Body<'_, 'w, 't>, attributes: &[u8]) -> Option<Pla
 }
 
 /// The offset that four bytes are.
-fn offset_in(bytes: &[u8]) -> Option<usize>
+pub(crate) fn offset_in(bytes: &[u8]) -> Option<usize>
     ensures { result ≡ offset_in bytes.now }
 {
     if bytes.len() == 4 {

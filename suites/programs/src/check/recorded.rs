@@ -1,7 +1,7 @@
 //! Requests that a kernel (Linux 6.18) refused, with the attribute that it stated by `NLMSGERR_ATTR_OFFS`.
 
 use crate::bodies::support::parts;
-use neli_tables_check::{Refusal, check, find};
+use neli_tables_check::{Diagnosis, Refusal, check, find};
 use neli_tables_walk::{body_of, built_in};
 use std::fmt::Write;
 use std::test::Fail;
@@ -142,5 +142,71 @@ fn refusals_are_printed(rt: HostRuntime) -> Result<(), Fail> {
     let mut said = String::new(alloc);
     write!(said, "{refusal}")?;
     assert_eq!(rt; said.as_str(), "error 4095");
+    Ok(())
+}
+
+/// Requests that Linux 6.18 refused, and of each answer the number of the error and the attributes behind its echo; 20 is
+/// the number of `netdev` there. The names are those of the kernel's headers by their numbers in these bytes, the limits
+/// those of the policy in the answer.
+const DIAGNOSED: [(&str, u16, &[u8], u32, &[u8], &str); 5] = [
+    (
+        "an attribute that is missing",
+        16,
+        b"\x14\0\0\0\x14\0\x05\0\x04\0\0\0\0\0\0\0\x01\x01\0\0",
+        22,
+        b"\x08\0\x05\0\x01\0\0\0",
+        "EINVAL: Invalid argument: missing NETDEV_A_DEV_IFINDEX",
+    ),
+    (
+        "another, beside one",
+        16,
+        b"\x1c\0\0\0\x14\0\x05\0\x05\0\0\0\0\0\0\0\x0a\x01\0\0\x08\0\x02\0\x01\0\0\0",
+        22,
+        b"\x08\0\x05\0\x01\0\0\0",
+        "EINVAL: Invalid argument: missing NETDEV_A_QUEUE_ID",
+    ),
+    (
+        "a number below its range",
+        16,
+        b"(\0\0\0\x15\0\x05\0\x06\0\0\0\0\0\0\0\x05\x01\0\0\x0c\0\x01\x80\x07\0\x02\0lo\0\0\
+          \x08\0\x09\0\0\0\0\0",
+        34,
+        b"\x19\0\x01\0integer out of range\0\0\0\0\x08\0\x02\0 \0\0\0$\0\x04\x80\x0c\0\x04\0\x01\0\0\0\0\0\0\0\
+          \x0c\0\x05\0\x08\0\0\0\0\0\0\0\x08\0\x01\0\x04\0\0\0",
+        "ERANGE: Numerical result out of range: integer out of range: ETHTOOL_A_LINKMODES_LANES = 0, allowed 1..8",
+    ),
+    (
+        "one of routing",
+        0,
+        b"(\0\0\0\x10\0\x05\0\x07\0\0\0\0\0\0\0\0\0\0\0\x01\0\0\0\0\0\0\0\0\0\0\0\x08\0)\0\x01\0\0\0",
+        34,
+        b"\x19\0\x01\0integer out of range\0\0\0\0\x08\0\x02\0 \0\0\0$\0\x04\x80\x0c\0\x04\0\xc1\0\0\0\0\0\0\0\
+          \x0c\0\x05\0\xff\xff\xff\xff\0\0\0\0\x08\0\x01\0\x04\0\0\0",
+        "ERANGE: Numerical result out of range: integer out of range: IFLA_GSO_MAX_SIZE = 1, allowed 193..4294967295",
+    ),
+    (
+        "0593: a number of 2 bytes",
+        0,
+        b"\x28\0\0\0\x13\0\x05\0\x68\x04\0\0\0\0\0\0\0\0\0\0\x03\0\0\0\0\0\0\0\0\0\0\0\x06\0\x04\0\xdc\x05\0\0",
+        34,
+        b"'\0\x01\0Attribute failed policy validation\0\0\x08\0\x02\0 \0\0\0$\0\x04\x80\x0c\0\
+          \x04\0\0\0\0\0\0\0\0\0\x0c\0\x05\0\xff\xff\xff\xff\0\0\0\0\x08\0\x01\0\x04\0\0\0",
+        "ERANGE: Numerical result out of range: Attribute failed policy validation: IFLA_MTU = 0xdc05, allowed 0..4294967295",
+    ),
+];
+
+#[test]
+fn refusals_are_diagnosed(rt: HostRuntime) -> Result<(), Fail> {
+    let alloc = rt.alloc();
+    let mut tables = built_in(alloc)?;
+    tables.learn(20, b"netdev")?;
+    tables.learn(21, b"ethtool")?;
+    for (what, protocol, request, number, attributes, line) in DIAGNOSED {
+        let (head, payload) = parts(protocol, request);
+        let diagnosis = Diagnosis::of(&body_of(&tables, head, payload), number, attributes);
+        let mut said = String::new(alloc);
+        write!(said, "{diagnosis}")?;
+        assert_eq!(rt; said.as_str(), line, "at {what}");
+    }
     Ok(())
 }
