@@ -1,0 +1,9 @@
+pub mod Addresses
+pub mod Asked
+pub mod Integers
+pub mod Lists
+pub mod Messages
+pub mod Named
+pub mod Refusals
+pub mod Values
+pub mod laws

@@ -1,0 +1,11 @@
+//! Messages that are written by names (docs/WRITING.md).
+//!
+//! Expected bytes are those of recorded requests, whose numbers are those of docs/RECORDINGS.md.
+#![tactic(auto)]
+
+#[cfg(test)]
+mod named;
+#[cfg(test)]
+mod recorded;
+#[cfg(test)]
+mod requests;
