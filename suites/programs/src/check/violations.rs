@@ -78,13 +78,7 @@ const CHECKED: [Row; 58] = [
         "body: shorter than 4 bytes",
         "body: shorter than 4 bytes",
     ),
-    (
-        "a body of a kind",
-        17,
-        b"\x09\0",
-        "",
-        "",
-    ),
+    ("a body of a kind", 17, b"\x09\0", "", ""),
     (
         "one of another length",
         17,
@@ -162,13 +156,7 @@ const CHECKED: [Row; 58] = [
         "SIGNED: not from 2 to 300",
         "SIGNED: not from 2 to 300",
     ),
-    (
-        "all bits",
-        16,
-        b"\0\0\0\0\x06\0\x04\0\x01\x03\0\0",
-        "",
-        "",
-    ),
+    ("all bits", 16, b"\0\0\0\0\x06\0\x04\0\x01\x03\0\0", "", ""),
     (
         "one more",
         16,
@@ -513,7 +501,12 @@ const ADDRESSES: [(u8, &[u8], &str, &str); 6] = [
         "ADDRESS: longer than 4 bytes",
         "",
     ),
-    (10, b"\x14\0\x0c\0\0\0\0\0\0\0\0\0\0\0\0\0\0\0\0\x01", "", ""),
+    (
+        10,
+        b"\x14\0\x0c\0\0\0\0\0\0\0\0\0\0\0\0\0\0\0\0\x01",
+        "",
+        "",
+    ),
     (
         10,
         b"\x08\0\x0c\0\x7f\0\0\x01",
