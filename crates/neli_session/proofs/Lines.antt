@@ -1,11 +1,10 @@
 -- Lines: one number more at the end, and one less anywhere.
-use Rattle.std.proofs.Common.{ℕ, zero, suc, ◌≤◌, ◌≡◌, ◌≢◌, Bool, true, false, List, [], ◌∷◌, ◌++◌, length, Option, Some, None, refl, sym, ap, subst, ◌∙◌, arith}
+use Rattle.std.proofs.Common.{ℕ, zero, suc, ◌≤◌, ◌≡◌, Bool, true, false, List, [], ◌∷◌, ◌++◌, length, Option, Some, None, refl, sym, ap, subst, ◌∙◌, arith}
 use Rattle.std.proofs.lemmas.Bool.{eqb-true}
 use Rattle.std.proofs.lemmas.Map.Steps.{length-le_from_keys}
 use Rattle.std.specs.Cmp.{nat_eq_equiv}
 use Rattle.std.specs.List.{IsDistinct, AllByRecursion, list_any}
 use Rattle.std.specs.Option.{option_map, IsSome}
-use Rattle.std.specs.Map.{lookup}
 use Rattle.std.specs.Prelude.{nat_eq, is_some, ◌==◌, ◌||◌, if◌then◌else◌}
 use Rattle.neli_session.specs.declared.line.Link.{Link}
 use Rattle.neli_session.specs.Lines.{AreApart, AreLinked, IsLine, end_with, first_in, has_place, is_in, last_after, last_in, link_at, link_if}

@@ -1,6 +1,6 @@
 -- A session: the requests by their numbers, and the readers of what answers none.
 use Rattle.std.specs.Prelude.{◌≡◌, ℕ, Bool, true, false, not, ◌&&◌, ◌||◌, ◌==◌, if◌then◌else◌, List, [], ◌∷◌, ◌++◌}
-use Rattle.std.specs.Prelude.{Option, Some, None, is_some, nat_eq, Ok, Err}
+use Rattle.std.specs.Prelude.{Option, Some, None, is_some, Ok, Err}
 use Rattle.std.specs.Option.{option_map}
 use Rattle.neli_answers.specs.declared.answering.Answering.{Answering}
 use Rattle.neli_lent.specs.Messages.{Lent, message_view}

@@ -1,4 +1,4 @@
-use Rattle.std.proofs.Common.{Bool, sym, ◌∙◌}
+use Rattle.std.proofs.Common.{sym, ◌∙◌}
 use Rattle.neli_session.proofs.Readiness.{settled-same}
 use Rattle.neli_session.proofs.requests.shift.Goals as goal
 

@@ -1,4 +1,4 @@
-use Rattle.std.proofs.Common.{◌≡◌, ℕ, List, ◌∷◌, ◌++◌, [], Bool, true, false, Option, Some, None, length, ap, subst, sym, ◌∙◌}
+use Rattle.std.proofs.Common.{length, ap, ◌∙◌}
 use Rattle.neli_session.specs.Lines.{IsLine, Standing, walk}
 use Rattle.neli_session.proofs.Lines.{placed, row-walk, same-line, seen}
 use Rattle.neli_session.proofs.line.Line.add_place.Goals as goal

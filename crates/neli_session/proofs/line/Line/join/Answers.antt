@@ -1,6 +1,6 @@
-use Rattle.std.proofs.Common.{◌≡◌, ℕ, List, ◌∷◌, ◌++◌, [], Bool, true, false, Option, Some, None, length, ap, subst, sym, ◌∙◌}
+use Rattle.std.proofs.Common.{ℕ, List, ◌∷◌, ◌++◌, [], Option, Some, length, ap, subst, sym, ◌∙◌}
 use Rattle.neli_session.specs.declared.line.Link.{Link}
-use Rattle.neli_session.specs.Lines.{IsLine, Standing, end_with, has_place, is_in, link_if, walk, with_after}
+use Rattle.neli_session.specs.Lines.{IsLine, Standing, has_place, is_in, link_if, walk, with_after}
 use Rattle.neli_session.proofs.Lines.{line-more, row-walk, seen}
 use Rattle.neli_session.proofs.line.Line.join.Goals as goal
 

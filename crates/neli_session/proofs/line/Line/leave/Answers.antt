@@ -1,7 +1,7 @@
-use Rattle.std.proofs.Common.{◌≡◌, ℕ, List, ◌∷◌, ◌++◌, [], Bool, true, false, Option, Some, None, length, ap, subst, sym, ◌∙◌}
+use Rattle.std.proofs.Common.{◌≡◌, ℕ, true, false, Option, None, length, ap, subst, sym, ◌∙◌}
 use Rattle.std.specs.Prelude.{is_some}
 use Rattle.neli_session.specs.declared.line.Link.{Link}
-use Rattle.neli_session.specs.Lines.{IsLine, Standing, end_with, has_place, is_in, link_if, link_of, walk, with_after, with_before, without}
+use Rattle.neli_session.specs.Lines.{IsLine, Standing, end_with, has_place, is_in, link_if, walk, with_before, without}
 use Rattle.neli_session.proofs.Lines.{line-less, placed, row-walk, seen}
 use Rattle.neli_session.proofs.line.Line.leave.Goals as goal
 

@@ -1,5 +1,5 @@
-use Rattle.std.proofs.Common.{◌≡◌, ℕ, List, ◌∷◌, ◌++◌, [], Bool, true, false, Option, Some, None, length, ap, subst, sym, ◌∙◌}
-use Rattle.neli_session.specs.Lines.{IsLine, Standing, is_in, link_of, walk}
+use Rattle.std.proofs.Common.{◌≡◌, false, length, ap, ◌∙◌}
+use Rattle.neli_session.specs.Lines.{IsLine, Standing, is_in, walk}
 use Rattle.neli_session.proofs.Lines.{differ, row-walk, same-line, seen}
 use Rattle.neli_session.proofs.line.Line.remove_place.Goals as goal
 

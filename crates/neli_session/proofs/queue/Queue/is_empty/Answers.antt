@@ -1,4 +1,4 @@
-use Rattle.std.proofs.Common.{◌≡◌, List, [], ◌∷◌, ap, sym, ◌∙◌}
+use Rattle.std.proofs.Common.{◌∙◌}
 use Rattle.neli_session.proofs.Queues.{none-waits}
 use Rattle.neli_session.proofs.queue.Queue.is_empty.Goals as goal
 

@@ -1,4 +1,4 @@
-use Rattle.std.proofs.Common.{List, ℕ, arith, ap, subst, sym, ◌∙◌, ◌∷◌, [], ◌++◌, take, slice_index_or}
+use Rattle.std.proofs.Common.{List, ℕ, arith, subst, sym, ◌∙◌, take}
 use Rattle.std.proofs.lemmas.List.{take_more}
 use Rattle.neli_session.specs.declared.entry.Entry.{Entry}
 use Rattle.neli_session.specs.Readiness.{AreAway}

@@ -1,4 +1,4 @@
-use Rattle.std.proofs.Common.{◌≡◌, ℕ, Bool, false, Option, None, ap, sym, ◌∙◌}
+use Rattle.std.proofs.Common.{Bool, Option, ap, sym, ◌∙◌}
 use Rattle.std.specs.Prelude.{if◌then◌else◌}
 use Rattle.neli_session.specs.declared.request.Request.{Request}
 use Rattle.neli_session.specs.Readiness.{ready_at, settled_in}

@@ -1,4 +1,4 @@
-use Rattle.std.proofs.Common.{◌≡◌, ap, sym, ◌∙◌}
+use Rattle.std.proofs.Common.{ap, sym, ◌∙◌}
 use Rattle.neli_session.specs.Lines.{without}
 use Rattle.neli_session.specs.Requests.{Held}
 use Rattle.neli_session.proofs.Readiness.{after-turn, gone, none-in-line}

@@ -1,4 +1,4 @@
-use Rattle.std.proofs.Common.{◌≡◌, ℕ, Bool, true, false, Option, Some, ap, sym, ◌∙◌}
+use Rattle.std.proofs.Common.{ℕ, Bool, Option, ap, sym, ◌∙◌}
 use Rattle.std.specs.Prelude.{if◌then◌else◌, is_some}
 use Rattle.neli_session.specs.Lines.{has_place}
 use Rattle.neli_session.specs.Readiness.{placed_after, settled_in}

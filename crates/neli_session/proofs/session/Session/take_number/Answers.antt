@@ -1,4 +1,4 @@
-use Rattle.std.proofs.Common.{ℕ, true, arith, ap, sym, ◌∙◌, ◌≡◌, ◌<◌, length}
+use Rattle.std.proofs.Common.{arith, ap, ◌≡◌, ◌<◌, length}
 use Rattle.neli_session.specs.Requests.{Held}
 use Rattle.neli_session.proofs.Free.{all-in-use}
 use Rattle.neli_session.proofs.session.Session.take_number.Goals as goal
