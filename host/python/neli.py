@@ -691,6 +691,7 @@ class NetlinkSocket:
     def __init__(self, family: int = NETLINK_ROUTE, groups: Iterable[int] = ()):
         _fit(16, family=family)
         self.family, self._at, self._said, self._lent, self._is_stopped = family, None, None, None, False
+        self._wait, self._is_strict = -1, False  # as set for this socket, also where `bind` opens another
         self._under_way: dict[int, list] = {}
         self._dropped: list[int] = []  # the handles that nobody keeps; each time it is opened it has another list
         self._waiters: set[tuple] = set()  # the handles that tasks of asyncio wait for, with a future each
@@ -700,19 +701,22 @@ class NetlinkSocket:
         self._shut()
         at = ctypes.c_void_p()
         code = self._open_host(ctypes.byref(at), groups)
-        self._at, self._wait, self._is_stopped = at.value, -1, False
+        self._at, self._is_stopped = at.value, False
         if code != OK:
             error = self._error(code)
             self._shut()
             raise error
         _lib.neli_host_set_ends_by_signals(self._at, True)
+        _lib.neli_host_set_wait(self._at, self._wait)
+        if self._is_strict:
+            self._make_strict()
 
     def _open_host(self, at, groups):
         numbers = (ctypes.c_uint32 * max(1, len(groups)))(*groups)
         return _lib.neli_host_open(at, self.family, numbers, len(groups))
 
     def bind(self, groups: Iterable[int] = ()) -> None:
-        """Opens it again, in these groups; closes the open socket.
+        """Opens it again, in these groups; closes the open socket. `settimeout` and `set_strict` hold for the new one too.
 
         A NetlinkError if the system refuses the socket or a group; then it is closed. A ValueError if a group does not
         fit 32 bits.
@@ -788,6 +792,7 @@ class NetlinkSocket:
 
     def _make_strict(self):
         self._well(_lib.neli_host_set_strict(self._opened()))
+        self._is_strict = True
 
     def stop(self) -> None:
         """Ends all waits with ECANCELED; any thread, and a signal's handler, may call it."""
