@@ -1241,13 +1241,14 @@ static inline int32_t neli_datagram_json(struct neli_tables *tables, uint16_t pr
 }
 
 /* Stores a message's attributes by name, those in a nest behind the nest; and writes of each its path, the names from
- * the outside in with dots between them, as IFLA_LINKINFO.IFLA_INFO_KIND, a number where there is no row, and behind
- * it its value in JSON, by what its row says that it is, or else its bytes. A rest has the path of its list, `body` in
- * the message's own. `count` is how many items there are, and `size` how many bytes their texts have: NELI_OK if both
- * had room. NELI_ROOM if not: the first items are stored that had, and the beginning of the texts; a second call with
- * this room has it all. `item_room` counts items. No zero byte ends a text. The time is that of one walk, however many
- * items there are. NELI_KIND if no table has the attributes of such a message, NELI_SHORT if its body is shorter than
- * the structure before them, NELI_PLACE if its payload is past the bytes; then nothing is stored. */
+ * the outside in with dots between them, as IFLA_LINKINFO.IFLA_INFO_KIND, a number where there is no row, and behind it
+ * its value in JSON, by what its row says that it is, or else its bytes, as of a nest, whose attributes follow. A rest
+ * has the path of its list, `body` in the message's own. `count` is how many items there are, and `size` how many bytes
+ * their texts have: NELI_OK if both had room. NELI_ROOM if not: the first items are stored that had, and the beginning
+ * of the texts; a second call with this room has it all. `item_room` counts items. No zero byte ends a text. The time
+ * is that of one walk, however many items there are. NELI_KIND if no table has the attributes of such a message,
+ * NELI_SHORT if its body is shorter than the structure before them, NELI_PLACE if its payload is past the bytes; then
+ * nothing is stored. */
 static inline int32_t neli_named_items(struct neli_tables *tables, uint16_t protocol, const uint8_t *bytes,
                                        size_t length, const struct neli_message *message, struct neli_named *items,
                                        size_t item_room, size_t *count, char *text, size_t room, size_t *size) {
@@ -1313,8 +1314,10 @@ static inline int32_t neli_message_name(struct neli_tables *tables, uint16_t pro
 }
 
 /* Checks a message before it is sent, as the parser does by which the kernel reads such a request, the strict or the
- * liberal one, as its table says: NELI_OK, or NELI_VIOLATION, and then `out` has the path of the first attribute that it
- * would refuse, and what is wrong with it. A message without a line passes. NELI_PLACE if the payload is past the bytes.
+ * liberal one, as its table says: NELI_OK, or NELI_VIOLATION, and then `out` has the path of the first attribute that
+ * it would refuse, and what is wrong with it. Its flags have NLM_F_REQUEST, as what is sent has; else it is read as a
+ * message of the kernel's. A message without a line passes, as of a family of generic netlink whose number was not
+ * learnt. NELI_PLACE if the payload is past the bytes.
  *
  * NELI_VIOLATION is returned also if that text does not fit: `out` has its beginning, and `size` is how long the whole
  * is. Without NELI_VIOLATION `size` is as it was. */
@@ -1344,8 +1347,8 @@ static inline int32_t neli_path_at(struct neli_tables *tables, uint16_t protocol
 /* Prints a refusal of the kernel in a line: the name and the meaning of its code, as -22 for EINVAL; its text, if it
  * sent one (NELI_ANSWER_TEXT); and the path to the attribute at its offset (NELI_ANSWER_OFFSET) in the request, which
  * is this message, if the tables know one there, as
- * `EINVAL: Invalid argument: Unknown device type: IFLA_LINKINFO.IFLA_INFO_KIND`. An offset of 0 is none. NELI_ROOM and
- * NELI_PLACE as of neli_message_text. */
+ * `ERANGE: Numerical result out of range: Attribute failed policy validation: IFLA_IFNAME`. An offset of 0 is none.
+ * NELI_ROOM and NELI_PLACE as of neli_message_text. */
 static inline int32_t neli_refusal_text(struct neli_tables *tables, uint16_t protocol, const uint8_t *bytes,
                                         size_t length, const struct neli_message *message, int32_t code,
                                         const void *text, size_t text_length, size_t offset, char *out, size_t room,

@@ -154,9 +154,9 @@ int32_t neli_host_take_in(struct neli_host *host);
  * none; then `handle` is as it was. */
 bool neli_host_ready(struct neli_host *host, size_t *handle);
 
-/* Whether a read of a handle returns at once, as after `neli_host_stop` too; it looks at no socket. A loop over poll(2) sets a wait of 0, sends, reads
- * each handle until the wait has ended (EAGAIN), and sleeps only if none is ready: what one read took in may be another
- * handle's. */
+/* Whether a read of a handle returns at once, as after `neli_host_stop` too; it looks at no socket. A loop over poll(2)
+ * sets a wait of 0, sends, reads each handle until the wait has ended (EAGAIN), and sleeps only if none is ready: what
+ * one read took in may be another handle's. */
 bool neli_host_is_ready(struct neli_host *host, size_t handle);
 
 /* Reports the verdict on the answer to a request, by the items read from it: whether `neli_host_next` returned all of
