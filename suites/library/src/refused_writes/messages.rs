@@ -10,7 +10,8 @@ use hex::decode;
 use neli::consts::nl::NlmF;
 use neli::lent::LentMessages;
 use neli::schema::{
-    Head, Item, PathText, Refusal, RoutingTable, Table, Tables, body_of, built_in, check, find,
+    Head, Item, PathText, Refusal, RoutingTable, Table, Tables, Validation, body_of, built_in,
+    check, check_as, find,
 };
 use neli::show::{
     Datagram, DatagramJson, DatagramText, ItemJson, ItemText, Message, MessageJson, MessageText,
@@ -396,12 +397,12 @@ fn places_by_tables(rt: HostRuntime) -> Result<(), Fail> {
         steps: place.path.steps(),
     };
     assert_prints(&rt, alloc, &path, want);
-    let violation = check(&nested).err().unwrap();
+    let violation = check_as(&nested, Validation::Strict).err().unwrap();
     assert_prints(
         &rt,
         alloc,
         &violation,
-        "IFLA_LINKINFO.IFLA_INFO_DATA: 3 bytes after the attributes",
+        "IFLA_LINKINFO: NLA_F_NESTED is missing",
     );
     Ok(())
 }
