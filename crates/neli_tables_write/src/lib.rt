@@ -13,6 +13,7 @@ mod json;
 mod message;
 mod names;
 mod nested;
+mod open;
 mod refusal;
 mod structure;
 mod text;

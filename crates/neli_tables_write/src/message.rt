@@ -9,6 +9,7 @@ use crate::fields::set_field;
 use crate::json::{DEPTH, set_fields};
 use crate::names::nearest_row;
 use crate::nested::{headed, list_of};
+use crate::open::{Open, nest_of};
 use crate::structure::{size_of, zeros};
 use crate::{Given, MAX_PAYLOAD, Refusal, Why, request_named, row_named, value_bytes};
 use arrayvec::ArrayVec;
@@ -19,27 +20,6 @@ use std::alloc::{AllocError, Global};
 
 /// `NETLINK_GENERIC` of `linux/netlink.h`.
 const GENERIC: u64 = 16;
-
-/// A list that is open.
-#[derive(Clone, Copy, Debug)]
-struct Open {
-    /// What it has.
-    nest: Nest,
-    /// The place of the row of the nest, where it was opened by its name.
-    row: Option<usize>,
-    /// The index of the first that was asked for in it.
-    first: usize,
-}
-
-impl Default for Open {
-    fn default() -> Open {
-        Open {
-            nest: Nest::NONE,
-            row: None,
-            first: 0,
-        }
-    }
-}
 
 /// A message that is being written: its body, by the names of a family's table.
 #[derive(Drop)]
@@ -52,18 +32,6 @@ pub struct Message<'w, 't> {
     header: Vec<u8>,
     asked: Vec<Asked>,
     levels: ArrayVec<Open, MAX_DEPTH>,
-}
-
-/// The list of attributes that options mean.
-fn nest_of(table: &Table<'_>, options: &Options) -> Option<Nest> {
-    match options.kind {
-        Some(Kind::Nest | Kind::Hops) => Some(Nest {
-            set: options.of?,
-            after: options.after,
-            header: size_of(table, options.after),
-        }),
-        _ => None,
-    }
 }
 
 /// The header of generic netlink of the message at this place, in a table of that protocol.
