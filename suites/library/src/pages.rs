@@ -3,10 +3,10 @@
 //! Expected bytes are those of recorded datagrams, whose numbers are those of docs/RECORDINGS.md, or were worked out by
 //! hand from the kernel's headers.
 
-use neli::consts::rtnl::Ifla;
+use neli::consts::rtnl::{Ifla, Rtm};
 use neli::lent::LentMessage;
 use neli::nl::Nlmsghdr;
-use neli::router::synchronous::{Log, NlRouter};
+use neli::router::synchronous::{Log, NlRouter, NlRouterReceiverHandle, Reply};
 use neli::rtnl::Ifinfomsg;
 use neli::schema::Tables;
 use neli::types::{Buffer, RtBuffer};
@@ -135,6 +135,55 @@ fn lent(datagram: &[u8]) -> Result<(Option<u32>, Option<&str>, Option<u8>), Fail
 #[test]
 fn a_lent_port_is_read(rt: HostRuntime) -> Result<(), Fail> {
     assert_eq!(rt; lent(PORT)?, (Some(1500), Some("veth1"), Some(3)));
+    Ok(())
+}
+
+/// A datagram of a dump for the first request of a router with port 7: a link with `IFLA_MASTER` (10), and one without
+/// (`linux/if_link.h`).
+const LINKS: &[u8] = b"\x28\0\0\0\x10\0\x02\0\0\0\0\0\x07\0\0\0\0\0\0\0\x02\0\0\0\0\0\0\0\0\0\0\0\
+    \x08\0\x0a\0\x05\0\0\0\
+    \x20\0\0\0\x10\0\x02\0\0\0\0\0\x07\0\0\0\0\0\0\0\x03\0\0\0\0\0\0\0\0\0\0\0";
+
+/// How many of the links that wait belong to another, and what an owned read returns then.
+fn ports_that_wait(
+    alloc: Global,
+    router: &mut NlRouter,
+    mut handle: NlRouterReceiverHandle<Rtm, Ifinfomsg>,
+) -> Result<(u32, Reply<Rtm, Ifinfomsg>), Fail> {
+    use neli::consts::rtnl::{Ifla, Rtm};
+    use neli::router::synchronous::LentReply;
+    use neli::rtnl::Ifinfomsg;
+
+    let mut ports = 0u32;
+    while let LentReply::Item(Ok(message)) = router.lend_next(&handle) {
+        let attrs = message.get_attrs::<Ifinfomsg, Ifla>()?;
+        if attrs.get_attribute(Ifla::Master)?.is_some() {
+            ports += 1;
+        }
+        router.pass(&mut handle);
+    }
+    // An error, the end, or a wait: an owned read returns it too.
+    let reply = router.next_typed::<Rtm, Ifinfomsg, _, _>(alloc, &mut handle)?;
+    Ok((ports, reply))
+}
+
+#[test]
+fn ports_are_counted_where_they_wait(rt: HostRuntime) -> Result<(), Fail> {
+    use neli::consts::nl::NlmF;
+    use neli::consts::rtnl::RtAddrFamily;
+    use neli::rtnl::IfinfomsgBuilder;
+    use neli::short::Client;
+
+    let alloc = rt.alloc();
+    let (mut router, _multicast) = NlRouter::<Log>::new(alloc, 7);
+    let all = IfinfomsgBuilder::default()
+        .ifi_family(RtAddrFamily::Unspecified)
+        .build(alloc)?;
+    let request = router.request(alloc, Rtm::Getlink, NlmF::DUMP, all)?;
+    router.receive_for(alloc, LINKS, &[])?;
+    let (ports, reply) = ports_that_wait(alloc, &mut router, request.handle)?;
+    assert_eq!(rt; ports, 1);
+    assert!(rt; matches!(reply, Reply::Waits));
     Ok(())
 }
 

@@ -1,4 +1,4 @@
-//! The contents of the shared store after each read: the run that docs/STORE.md draws, and a fault.
+//! The contents of the shared store after each read: the run that docs/ROUTER.md draws, and a fault.
 
 use super::support::{assert_is, bytes_of};
 use neli::consts::nl::NlmF;

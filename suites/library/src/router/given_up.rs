@@ -406,7 +406,7 @@ fn kept(router: &NlRouter<Log>) -> [usize; 2] {
 }
 
 /// Of messages of 16 bytes in one datagram: a handle that is not read holds what it waits for, all entries after that,
-/// and the whole datagram (docs/STORE.md). What only requests that were given up got is not kept.
+/// and the whole datagram (docs/ROUTER.md). What only requests that were given up got is not kept.
 #[test]
 fn nothing_is_kept_of_hundreds(rt: HostRuntime) {
     let alloc = rt.alloc();
