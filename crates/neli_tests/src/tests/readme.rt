@@ -1,4 +1,4 @@
-//! The example of the README, the first two of docs/ATTRIBUTES.md and the first one of docs/LENT.md, line by line.
+//! The example of the README, the first two of docs/ATTRIBUTES.md and the first one of docs/FRAMES.md, line by line.
 
 use super::support::{assert_is, assert_spelled, assert_written, bytes_of};
 use neli::consts::nl::NlmF;
