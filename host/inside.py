@@ -173,7 +173,7 @@ def try_page(at):
 
 
 def try_own_host(at):
-    """The example of docs/C.md without neli_host.h."""
+    """The example without neli_host.h."""
     assert well(f"{at}/own_host") == "lo\n"
 
 
