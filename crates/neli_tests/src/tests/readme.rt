@@ -1,4 +1,4 @@
-//! The example of the README, the first two of docs/ATTRIBUTES.md and the first one of docs/FRAMES.md, line by line.
+//! The examples of the README, of docs/ATTRIBUTES.md (the first) and of docs/FRAMES.md (reading without a copy).
 
 use super::support::{assert_is, assert_spelled, assert_written, bytes_of};
 use neli::consts::nl::NlmF;
