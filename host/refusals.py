@@ -3,7 +3,7 @@
 
 In a network namespace of its own (`unshare -Urn`). Of each message of MESSAGES, by its table, each attribute is sent
 with other widths, ranges and flags, with unknown ones and with bytes behind the last; NELI_LIBRARY names the library.
-It prints how often each outcome came (docs/PROMISES.md), with -v the requests of those that differ. A test fails where
+It prints how often each outcome came (host/README.md), with -v the requests of those that differ. A test fails where
 the kernel's parser refuses one of SURE that passed before it was sent. The last line is 'N passed, M failed'.
 """
 

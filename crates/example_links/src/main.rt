@@ -1,7 +1,7 @@
 //! `example_links` prints the links of a host, a line each, from the kernel's answer to a request for all of them.
 //!
 //! Standard input is the answer: its datagrams one after the other. Here they are recorded, 0215 to 0218 of
-//! docs/PROMISES.md, so the request has the port and the number of these answers; a program with a socket sends the
+//! suites/README.md, so the request has the port and the number of these answers; a program with a socket sends the
 //! request in between. The lines in `stdout` are pyroute2's reading of them.
 //!
 //! The status reports whether the list is complete, by the router's verdict: 0; 2 if it changed meanwhile, 3 if the

@@ -5,7 +5,7 @@
 //! body is read by the type of its message, so an unknown type causes no refusal.
 //!
 //! A fault is reported on standard error, after the lines of the messages before it, and the status is 1. The recording
-//! beside this program, 24 of the datagrams 0004 to 0446 of docs/PROMISES.md, ends within 0453, as if cut off. Its
+//! beside this program, 24 of the datagrams 0004 to 0446 of suites/README.md, ends within 0453, as if cut off. Its
 //! lines in `stdout` are those of iproute2's `ip -d monitor all file`.
 #![tactic(auto)]
 

@@ -1,4 +1,4 @@
-//! Clients over recordings: no kernel and no namespace. `recordings/` has datagrams of `docs/PROMISES.md`, each in a
+//! Clients over recordings: no kernel and no namespace. `recordings/` has datagrams of `suites/README.md`, each in a
 //! frame that was packed field by field: 0154 to 0156 (a list of addresses, as `nlmon` records it), 0762 and 0763 (a
 //! link's MTU of two bytes is refused), 0818 and 0819 (the answer of the controller about the family netdev).
 

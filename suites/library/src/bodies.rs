@@ -1,6 +1,6 @@
 //! Tests of the bodies of all families.
 //!
-//! The bodies were recorded from Linux 6.18 on x86-64; their numbers are those of docs/PROMISES.md. Their fields were
+//! The bodies were recorded from Linux 6.18 on x86-64; their numbers are those of suites/README.md. Their fields were
 //! read by pyroute2.
 //!
 //! - [`builders`]: results of builders.

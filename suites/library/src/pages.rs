@@ -1,6 +1,6 @@
 //! Examples of the pages of docs/, line by line; `tests/pages` compares them with the pages.
 //!
-//! Expected bytes are those of recorded datagrams, whose numbers are those of docs/PROMISES.md, or were worked out by
+//! Expected bytes are those of recorded datagrams, whose numbers are those of suites/README.md, or were worked out by
 //! hand from the kernel's headers.
 
 use neli::consts::rtnl::{Ifla, Rtm};

@@ -1,6 +1,6 @@
 //! Tests of `neli_program`, which lists datagrams, writes them again and runs scripts.
 //!
-//! The recorded datagrams are of Linux 6.18 on x86-64; their numbers are those of docs/PROMISES.md.
+//! The recorded datagrams are of Linux 6.18 on x86-64; their numbers are those of suites/README.md.
 //! RFC 3549 section 2.3.2 and `struct nlmsghdr` of linux/netlink.h give the layout of the datagrams; the
 //! lines and the order of the faults are the program's own (docs/FRAMES.md), written out by hand.
 //!

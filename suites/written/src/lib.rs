@@ -1,6 +1,6 @@
 //! Messages that are written by names (docs/WRITING.md).
 //!
-//! Expected bytes are those of recorded requests, whose numbers are those of docs/PROMISES.md.
+//! Expected bytes are those of recorded requests, whose numbers are those of suites/README.md.
 #![tactic(auto)]
 
 #[cfg(test)]

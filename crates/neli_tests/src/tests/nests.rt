@@ -1,6 +1,6 @@
 //! A request with nested attributes: it creates a bridge with settings of its own.
 //!
-//! Its bytes are those that iproute2 sends to the kernel, as 1090 of docs/PROMISES.md has them, for `ip link add br0
+//! Its bytes are those that iproute2 sends to the kernel, as 1090 of suites/README.md has them, for `ip link add br0
 //! type bridge mcast_snooping 1 stp_state 1 priority 5`.
 
 use super::support::assert_spelled;

@@ -1,6 +1,6 @@
 //! The attributes of datagrams that were recorded from Linux 6.18, compared with the readings of libmnl and pyroute2.
 //! Each row is the part of a message after the header of its body, named by the number of its datagram in
-//! docs/PROMISES.md.
+//! suites/README.md.
 
 use super::support::{
     assert_is, assert_is_at, assert_lent, assert_number, assert_text, assert_written, read_list,

@@ -16,7 +16,7 @@ use std::io::ErrorKind;
 use std::process::Abort;
 
 /// The attributes of a bridge, as iproute2 writes them for `ip link add br0 type bridge mcast_snooping 1 stp_state 1
-/// priority 5` (1090 of docs/PROMISES.md).
+/// priority 5` (1090 of suites/README.md).
 const BRIDGE: [u8; 52] = [
     8, 0, 3, 0, b'b', b'r', b'0', 0, 44, 0, 18, 0, 10, 0, 1, 0, b'b', b'r', b'i', b'd', b'g', b'e',
     0, 0, 28, 0, 2, 0, 5, 0, 23, 0, 1, 0, 0, 0, 8, 0, 5, 0, 1, 0, 0, 0, 6, 0, 6, 0, 5, 0, 0, 0,

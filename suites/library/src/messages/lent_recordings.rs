@@ -1,6 +1,6 @@
 //! A link and a route that were recorded from Linux 6.18, compared with libmnl's reading of their headers and
 //! pyroute2's of their attributes, and a request of iproute2 with its command line. Numbers are those of
-//! docs/PROMISES.md.
+//! suites/README.md.
 
 use super::lent_messages::link_attrs;
 use super::support::{assert_is_at, lent_message, lent_numbers};

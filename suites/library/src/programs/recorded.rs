@@ -1,4 +1,4 @@
-//! Recorded datagrams (docs/PROMISES.md), in hexadecimal digits.
+//! Recorded datagrams (suites/README.md), in hexadecimal digits.
 
 /// The queueing disciplines of all links: 0171, 0172.
 pub const QUEUES: [&str; 2] = [

@@ -1,6 +1,6 @@
 //! The routes of a host: a request for them, and a line for each, as `Unicast 10.1.0.0/16 via 192.0.2.10 link 3`.
 //!
-//! Recorded from Linux 6.18: 0157 to 0159 of docs/PROMISES.md, with three of the 26 routes. pyroute2 read their
+//! Recorded from Linux 6.18: 0157 to 0159 of suites/README.md, with three of the 26 routes. pyroute2 read their
 //! fields.
 
 use super::support::assert_is;

@@ -1,6 +1,6 @@
 //! Messages and their attributes by the tables that are built in, and what these say of refused requests.
 //!
-//! Rows are recorded datagrams, by their file (docs/PROMISES.md), or made by hand where they have none. Headers,
+//! Rows are recorded datagrams, by their file (suites/README.md), or made by hand where they have none. Headers,
 //! codes and echoed headers are those that libmnl reads there, values those that pyroute2 reads; names are those of
 //! the kernel's headers. The forms are those of docs/SHOW.md and docs/TABLES.md. Colours are those of
 //! `console_codes(4)`, one for each part of a line, as `specs/Pieces.antt` of neli_print has them.

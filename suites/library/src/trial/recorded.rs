@@ -1,4 +1,4 @@
-//! Datagrams of a real kernel, in hexadecimal digits (docs/PROMISES.md).
+//! Datagrams of a real kernel, in hexadecimal digits (suites/README.md).
 
 /// The datagrams that are changed.
 pub const RECORDED: [&str; 21] = [

@@ -13,7 +13,7 @@ pub type Header = (u16, u16, u32, u32, usize);
 
 /// A datagram, its messages, and the bytes after them.
 pub struct Row {
-    /// A label: the number of the datagram, as docs/PROMISES.md has it.
+    /// A label: the number of the datagram, as suites/README.md has it.
     pub file: &'static str,
     pub hex: &'static str,
     pub messages: &'static [Header],
