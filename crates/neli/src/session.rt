@@ -27,17 +27,19 @@
 //! session.close(number);
 //! ```
 
-pub use neli_session::{Answering, Loss, Next, Reader, SendError, Session, Untaken, Verdict};
+pub use neli_session::{
+    Answering, Freshness, Loss, Next, Reader, SendError, Session, Untaken, Verdict,
+};
 
 /// Laws: what the reads of a request return, whatever happens to it, when the verdict is `Complete`, and what holds after
 /// any calls of a session; and with the simulator's kernel.
 pub mod laws {
     pub use neli_session::laws::{
         answers_are_read, complete_answers_are_whole, datagrams_are_happenings,
-        datagrams_go_out_in_order, dumps_take_turns, multicast_is_read, numbers_stay_in_use,
-        one_dump_runs, reads_are_noted, reads_are_the_answer, regrouping_changes_nothing,
-        requests_are_followed, sent_numbers_were_free, stages_follow, unasked_are_read,
-        whole_answers_are_complete,
+        datagrams_go_out_in_order, dumps_take_turns, last_request_decides, multicast_is_read,
+        numbers_stay_in_use, one_dump_runs, reads_are_noted, reads_are_the_answer,
+        regrouping_changes_nothing, requests_are_followed, sent_numbers_were_free, stages_follow,
+        unasked_are_read, unrequested_is_stale, whole_answers_are_complete,
     };
     pub use neli_session_laws::laws::{
         datagrams_bring_answers, no_dump_is_refused, requests_are_answered,

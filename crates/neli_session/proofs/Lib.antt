@@ -17,3 +17,4 @@ mod Verdicts
 pub mod Lines
 pub mod Readiness
 pub mod Free
+mod Current

@@ -10,3 +10,4 @@ pub mod Words
 pub mod Happenings
 pub mod Histories
 pub mod Verdicts
+pub mod Freshness

@@ -1,6 +1,7 @@
 //! Laws: what the reads of a request return, whatever happens, when the verdict is `Complete`, and what holds after any
 //! calls of a session.
 
+ghost use Rattle.neli_session.specs.Freshness.{LastRequestDecides, UnrequestedIsStale};
 ghost use Rattle.neli_session.specs.Happenings.{DatagramsAreHappenings, ReadsAreTheAnswer, StagesFollow};
 ghost use Rattle.neli_session.specs.Histories.{AnswersAreRead, DatagramsGoOutInOrder, DumpsTakeTurns};
 ghost use Rattle.neli_session.specs.Histories.{MulticastIsRead, NumbersStayInUse, OneDumpRuns};
@@ -104,4 +105,16 @@ pub fn complete_answers_are_whole()
 /// and its reads have returned it, the verdict is `Complete`.
 pub fn whole_answers_are_complete()
     ensures { WholeAnswersAreComplete }
+{}
+
+/// Whatever happens to a list that a program keeps, it is current exactly where its last request was answered completely
+/// and nothing was lost since that request was made. Where nothing was lost and its answer has not ended it is being read;
+/// else it is stale, and to be requested again.
+pub fn last_request_decides()
+    ensures { LastRequestDecides }
+{}
+
+/// A list that was not requested yet is stale.
+pub fn unrequested_is_stale()
+    ensures { UnrequestedIsStale }
 {}

@@ -7,6 +7,7 @@
 //! - [`Session::next`] lends a reader's next item; `pass_answer`, `pass_multicast` and `pass_unasked` go on.
 //! - [`Session::verdict`]: whether all of an answer was read, and nothing of it was lost.
 //! - [`Session::close`]: nobody reads an answer any more; its number is in use until nothing more can come for it.
+//! - [`Freshness`]: whether a list that the program keeps is current, or to be requested again.
 //!
 //! A message goes to the request that it answers, to multicast, to both if it is the notification of the session's own
 //! change, or else to the reader of what nobody asked for. It is kept once for each of them. Where an answer ends is
@@ -23,6 +24,7 @@ mod change;
 mod chunk;
 mod entry;
 mod frame;
+mod freshness;
 pub mod laws;
 mod line;
 mod loss;
@@ -39,6 +41,7 @@ pub mod steps;
 
 pub use change::Change;
 pub use entry::Entry;
+pub use freshness::Freshness;
 pub use loss::Loss;
 pub use neli_answers::Answering;
 pub use reading::{Next, Reader};

@@ -8,10 +8,11 @@
 //!   long a number is in use. [`turns`]: which datagram is sent next. [`ready`]: who has something to read.
 //! - [`played`]: all scripts, as they are and with each datagram in two. [`out_of_memory`]: each request for memory
 //!   refused in turn.
-//! - [`example`]: the example of the module `session`.
+//! - [`kept`]: lists that a program keeps. [`example`]: the example of the module `session`.
 
 mod answers;
 mod example;
+mod kept;
 mod numbers;
 mod out_of_memory;
 mod played;
