@@ -353,7 +353,7 @@ int32_t neli_c_session_is_in_use(struct neli_session *session, uint32_t number);
 int32_t neli_c_next_request(const uint8_t *bytes, size_t length, struct neli_walk *walk, uint32_t port,
                             struct neli_request *request);
 uint32_t neli_c_answering(int32_t protocol, uint16_t type, uint16_t flags, size_t body_length);
-int32_t neli_c_ends_answer(uint32_t answering, uint16_t type, uint16_t flags);
+int32_t neli_c_ends_answer(uint32_t answering, uint16_t type, uint16_t flags, int32_t code);
 int32_t neli_c_kernel_ack(const struct neli_request *request, const uint8_t *ext_ack, size_t ext_ack_length,
                           uint8_t *out, size_t room, size_t *length);
 int32_t neli_c_kernel_capped_error(const struct neli_request *request, int32_t code, const uint8_t *ext_ack,
@@ -1016,11 +1016,12 @@ static inline uint32_t neli_answering(int32_t protocol, uint16_t type, uint16_t 
     return neli_c_answering(protocol, type, flags, body_length);
 }
 
-/* 1 if such an answer ends with a message of this type and with these flags, else 0. A dump ends with NLMSG_DONE,
- * whether its messages have NLM_F_MULTI or not. A number that is none of enum neli_answering is taken for
- * NELI_ANSWERING_ACKNOWLEDGEMENT. */
-static inline int32_t neli_ends_answer(uint32_t answering, uint16_t type, uint16_t flags) {
-    return neli_c_ends_answer(answering, type, flags);
+/* 1 if such an answer ends with a message of this type, with these flags, and with this code if it is an error (0 in an
+ * acknowledgement, as -19 for ENODEV), else 0. A dump ends with NLMSG_DONE, whether its messages have NLM_F_MULTI or not,
+ * and goes on after the error ENOBUFS (-105), with which Linux says that the socket's buffer was full as it began. A
+ * number that is none of enum neli_answering is taken for NELI_ANSWERING_ACKNOWLEDGEMENT. */
+static inline int32_t neli_ends_answer(uint32_t answering, uint16_t type, uint16_t flags, int32_t code) {
+    return neli_c_ends_answer(answering, type, flags, code);
 }
 
 /* ---- A kernel to test against ---- */

@@ -4,6 +4,7 @@
 #include <errno.h>
 #include <linux/if_addr.h>
 #include <linux/rtnetlink.h>
+#include <linux/sock_diag.h>
 #include <poll.h>
 #include <stdlib.h>
 #include <string.h>
@@ -173,12 +174,43 @@ static void an_end_that_no_message_is(void) {
     neli_host_close(host);
 }
 
+/* The bytes that the socket's buffer still takes. */
+static uint32_t room_left(struct neli_host *host) {
+    uint32_t info[SK_MEMINFO_VARS];
+    socklen_t size = sizeof info;
+    WANT(getsockopt(neli_host_fd(host), SOL_SOCKET, SO_MEMINFO, info, &size) == 0);
+    return info[SK_MEMINFO_RCVBUF] - info[SK_MEMINFO_RMEM_ALLOC];
+}
+
+/* A dump that begins with a full buffer has the error ENOBUFS, its list and its end; the next dump waits for that. */
+static void a_dump_that_goes_on_after_its_error(void) {
+    enum { LEFT = 20000, MOST = 1000 };
+    struct neli_host *host = route_host(false);
+    struct neli_message message;
+    struct neli_verdict verdict;
+    size_t questions[MOST], first, second;
+    int count = 0, links_listed = 0;
+    want_loopback(host, send_question(host, 1));
+    while (room_left(host) >= LEFT && count < MOST) questions[count++] = send_question(host, 1);
+    first = send_dump(host);
+    second = send_dump(host);
+    WANT(neli_host_next(host, first, &message) == NELI_KERNEL_ERROR);
+    WANT(neli_host_verdict(host, first, &verdict) == NELI_KERNEL_ERROR && verdict.error == -ENOBUFS);
+    while (neli_host_next(host, first, &message) == NELI_ITEM) links_listed += message.type == RTM_NEWLINK;
+    WANT(links_listed == 1 && neli_host_close_request(host, first) == NELI_OK);
+    want_answer(host, second, 1);
+    while (count > 0) want_loopback(host, questions[--count]);
+    WANT(in_use(host) == 0);
+    neli_host_close(host);
+}
+
 static const struct test tests[] = {
     {"sent_without_a_pause", sent_without_a_pause},
     {"a_send_takes_nothing_in", a_send_takes_nothing_in},
     {"a_loop_that_never_sleeps_on_an_item", a_loop_that_never_sleeps_on_an_item},
     {"a_loop_over_what_is_ready", a_loop_over_what_is_ready},
     {"an_end_that_no_message_is", an_end_that_no_message_is},
+    {"a_dump_that_goes_on_after_its_error", a_dump_that_goes_on_after_its_error},
 };
 
 int main(int argc, char **argv) {

@@ -84,8 +84,12 @@ static void check_answerings(void) {
         CHECK(neli_answering(rows[i].protocol, rows[i].type, rows[i].flags, rows[i].length) == rows[i].answering);
     for (uint32_t it = 0; it < 6; it++) {
         bool is_done = it == NELI_ANSWERING_DUMP || it == NELI_ANSWERING_REPLY;
-        CHECK(neli_ends_answer(it, 2, 0) == 1 && neli_ends_answer(it, 3, 2) == is_done);
-        CHECK(neli_ends_answer(it, 16, 0) == (it == NELI_ANSWERING_REPLY) && neli_ends_answer(it, 16, 2) == 0);
+        bool goes_on = it == NELI_ANSWERING_DUMP;
+        CHECK(neli_ends_answer(it, 2, 0, 0) == 1 && neli_ends_answer(it, 3, 2, 0) == is_done);
+        CHECK(neli_ends_answer(it, 16, 0, 0) == (it == NELI_ANSWERING_REPLY) && neli_ends_answer(it, 16, 2, 0) == 0);
+        /* ENOBUFS of asm-generic/errno.h, EBUSY, and ENOBUFS of the end of a dump. */
+        CHECK(neli_ends_answer(it, 2, 0, -105) == !goes_on && neli_ends_answer(it, 2, 0, -16) == 1);
+        CHECK(neli_ends_answer(it, 3, 2, -105) == is_done);
     }
 }
 

@@ -1,7 +1,8 @@
 -- How Linux answers a request, and with which message its answer ends (Linux 6.12; the function that decides stands
 -- beside each row).
-use Rattle.std.specs.Prelude.{ℕ, Bool, false, not, ◌&&◌, ◌||◌, ◌==◌, ◌%◌, nat_lt, bit_and, if◌then◌else◌}
+use Rattle.std.specs.Prelude.{ℕ, ℤ, negsuc, Bool, false, not, ◌&&◌, ◌||◌, ◌==◌, ◌%◌, nat_lt, bit_and, if◌then◌else◌}
 use Rattle.std.specs.Prelude.{List, [], ◌∷◌}
+use Rattle.std.specs.Ordering.{int_eq}
 use Rattle.std.specs.List.{list_any}
 use Rattle.neli_consts.specs.declared.nlm_f.NlmF.{NlmF}
 use Rattle.neli_consts_system.specs.declared.socket.NlFamily.{NlFamily}
@@ -121,11 +122,16 @@ answering_of protocol type flags length = answering_by_flags flags
 abbrev pub is_part : NlmF → Bool
 is_part flags = has_all 2 flags
 
--- the answer ends with a message of this type and with these flags: an error or an acknowledgement (NLMSG_ERROR, 2) ends
--- any; the end of a dump (NLMSG_DONE, 3) ends a dump, whether its messages have MULTI or not, and with it or as one
--- message without MULTI a reply ends
-abbrev pub ends_answer : Answering → ℕ → NlmF → Bool
-ends_answer answered.Dump type flags = (type == 2) || (type == 3)
-ends_answer answered.Acknowledgement type flags = type == 2
-ends_answer answered.Reply type flags = (type == 2) || ((type == 3) || not (is_part flags))
-ends_answer answered.Silence type flags = type == 2
+-- the code of an error after which a dump goes on: -105, no buffer space (ENOBUFS of asm-generic/errno.h), with which
+-- netlink_dump returns where the socket's buffer is full, and leaves the dump running (cb_running)
+abbrev pub leaves_dump_running : ℤ → Bool
+leaves_dump_running code = int_eq code (negsuc 104)
+
+-- the answer ends with a message of this type, with these flags and this code: an error or an acknowledgement
+-- (NLMSG_ERROR, 2) ends any, but for the error after which a dump goes on; the end of a dump (NLMSG_DONE, 3) ends a dump,
+-- whether its messages have MULTI or not, and with it or as one message without MULTI a reply ends
+abbrev pub ends_answer : Answering → ℕ → NlmF → ℤ → Bool
+ends_answer answered.Dump type flags code = (not (leaves_dump_running code) && (type == 2)) || (type == 3)
+ends_answer answered.Acknowledgement type flags code = type == 2
+ends_answer answered.Reply type flags code = (type == 2) || ((type == 3) || not (is_part flags))
+ends_answer answered.Silence type flags code = type == 2

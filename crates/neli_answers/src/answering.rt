@@ -24,6 +24,9 @@ pub enum Answering {
 /// Types of control messages are below this (`NLMSG_MIN_TYPE` of `linux/netlink.h`).
 const MIN_TYPE: u16 = 16;
 
+/// The code of an error after which a dump goes on: `ENOBUFS` of `asm-generic/errno.h`, negated.
+const NO_BUFFER_SPACE: i32 = -105;
+
 /// Types of netfilter that a bit of `NLM_F_DUMP` makes a dump, as the subsystem times 256 and its message.
 const NETFILTER_DUMPS: [u16; 22] = [
     0x101, 0x103, 0x104, 0x106, 0x107, 0x201, 0x203, 0x701, 0x702, 0x801, 0x901, 0xa01, 0xa04,
@@ -149,14 +152,16 @@ impl Answering {
         }
     }
 
-    /// Whether the answer ends with a message of this type and with these flags.
-    pub fn ends_with(self, nl_type: u16, flags: NlmF) -> bool
-        ensures { result ≡ ends_answer self nl_type flags }
+    /// Whether the answer ends with a message of this type, with these flags, and with this code if it is an error: 0 in
+    /// an acknowledgement, else the negated number of the error. A dump goes on after `ENOBUFS`, -105, with which Linux
+    /// says that the socket's buffer was full as it began.
+    pub fn ends_with(self, nl_type: u16, flags: NlmF, code: i32) -> bool
+        ensures { result ≡ ends_answer self nl_type flags code }
     {
         let is_error = nl_type == NLMSG_ERROR;
         let is_done = nl_type == NLMSG_DONE;
         match self {
-            Answering::Dump => is_error || is_done,
+            Answering::Dump => (code != NO_BUFFER_SPACE && is_error) || is_done,
             Answering::Acknowledgement | Answering::Silence => is_error,
             Answering::Reply => is_error || is_done || !flags.contains(NlmF::MULTI),
         }

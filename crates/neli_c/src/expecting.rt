@@ -37,15 +37,21 @@ pub extern "C" fn neli_c_answering(
     answering_in(NlFamily::from(protocol), nl_type, flags, body_length)
 }
 
-/// Returns 1 if an answer of this kind ends with a message of this type and with these flags, else 0.
+/// Returns 1 if an answer of this kind ends with a message of this type, with these flags, and with this code if it is
+/// an error: 0 in an acknowledgement, else the negated number of the error. Else 0.
 ///
 /// A number that is none of `enum neli_answering` is taken for that of an acknowledgement.
 #[unsafe(no_mangle)]
-pub extern "C" fn neli_c_ends_answer(answering: u32, nl_type: u16, flags: u16) -> i32
+pub extern "C" fn neli_c_ends_answer(
+    answering: u32,
+    nl_type: u16,
+    flags: u16,
+    code: i32,
+) -> i32
     ensures { result ≡ pos
-        (byte_of (ends_answer (answering_of_number answering) nl_type (flags_of flags))) }
+        (byte_of (ends_answer (answering_of_number answering) nl_type (flags_of flags) code)) }
 {
-    if of_number(answering).ends_with(nl_type, NlmF::from_wire(flags)) {
+    if of_number(answering).ends_with(nl_type, NlmF::from_wire(flags), code) {
         1
     } else {
         0

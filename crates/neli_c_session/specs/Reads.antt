@@ -1,7 +1,7 @@
 -- What the reads of a session return, in C's terms.
 use Rattle.std.specs.Prelude.{◌≡◌, ℕ, ℤ, Bool, true, false, ◌==◌, if◌then◌else◌, Option, Some, None, pos, option_map}
 use Rattle.std.specs.Ordering.{int_eq}
-use Rattle.neli_lent.specs.Messages.{Lent, message_view}
+use Rattle.neli_lent.specs.Messages.{Lent, code_or_zero, message_view}
 use Rattle.neli_session.specs.Mails.{Mail}
 use Rattle.neli_session.specs.declared.reading.Next.{Next}
 use Rattle.neli_session.specs.declared.reading.Next.TheVariants as next
@@ -11,7 +11,7 @@ use Rattle.neli_session.specs.declared.request.Verdict.{Verdict}
 use Rattle.neli_session.specs.declared.session.Session.{Session}
 use Rattle.neli_session.specs.Lines.{first_in, is_in}
 use Rattle.neli_session.specs.Readiness.{is_reader_ready, read_in, ready_at}
-use Rattle.neli_session.specs.Requests.{code_or_zero, verdict_of}
+use Rattle.neli_session.specs.Requests.{verdict_of}
 use Rattle.neli_session.specs.Sends.{SameReaders, SameSending}
 use Rattle.neli_session.specs.Sessions.{IsReplyOf, IsReplyOfQueue, at, filtered_at, passed_at, without_first}
 use Rattle.neli_c_parts.specs.Codes.{item, kernel_error, no_handle, ok, waits}

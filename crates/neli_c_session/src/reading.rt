@@ -4,13 +4,11 @@ ghost use Rattle.std.specs.Prelude.{◌≡◌, if◌then◌else◌};
 ghost use Rattle.neli_c_parts.specs.Codes.{item, waits};
 ghost use Rattle.neli_lent.specs.Messages.{message_view};
 ghost use Rattle.neli_c_session.specs.Calls.{Closes, ClosesMulticast};
-ghost use Rattle.neli_session.specs.Requests.{code_or_zero};
 ghost use Rattle.neli_c_session.specs.Reads.{LendsNext, LendsOutgoing, PassesNext, Stores, TellsVerdict, byte_of};
 ghost use Rattle.neli_c_session.specs.Reads.{TellsReady, error_code, is_ready_of, next_code};
 ghost use Rattle.neli_c_session.specs.Reads.{reader_of, shown_error};
 
 use crate::outcome::{errno_of, of_loss, of_verdict, verdict_error};
-use byteorder::{ByteOrder, LittleEndian};
 use neli_c_parts::code::{HANDLE, ITEM, KERNEL_ERROR, OK, WAITS};
 use neli_c_parts::lending::{NeliLent, stored};
 use neli_c_parts::session::NeliVerdict;
@@ -44,22 +42,12 @@ fn reader_of(kind: u32, number: u32) -> Option<Reader>
     }
 }
 
-/// The code at the front of these bytes; 0 if they are too few.
-fn code_or_zero(payload: &[u8]) -> i32
-    ensures { result ≡ code_or_zero payload.now }
-{
-    if payload.len() < 4 {
-        return 0;
-    }
-    LittleEndian::read_i32(payload)
-}
-
 /// The code of an error message; 0 of another one, and of one that is too short.
 fn error_code(message: &LentMessage<'_, u16>) -> i32
     ensures { result ≡ error_code (message_view message.now) }
 {
     match *message.nl_type() {
-        NLMSG_ERROR => code_or_zero(message.nl_payload()),
+        NLMSG_ERROR => message.code(),
         _ => 0,
     }
 }

@@ -1,9 +1,10 @@
 -- Messages with lent payloads: the bytes that they were read from.
-use Rattle.std.specs.Prelude.{ℕ, List, Result, Ok}
+use Rattle.std.specs.Prelude.{ℕ, ℤ, pos, ◌||◌, ◌==◌, nat_lt, if◌then◌else◌, List, length, Result, Ok}
 use Rattle.neli_wire.specs.Bytes.{Reading}
 use Rattle.neli_wire.specs.declared.errors.DeError.{DeError}
 use Rattle.neli_wire.specs.Frames.{Layout}
 use Rattle.neli_wire.specs.Reading.{◌>>=◌}
+use Rattle.neli_reader.specs.Answers.{code_in}
 use Rattle.neli_reader.specs.Cuts.{Cut, cut_of}
 use Rattle.neli_reader.specs.Headers.{Header}
 use Rattle.neli_reader.specs.Kinds.{payload_in, payload_takes_memory}
@@ -25,6 +26,14 @@ lent_message type_of = layout_with type_of (λ _ bytes. Ok bytes)
 -- the rest of a datagram: messages, and the fault after them
 unfoldable pub messages_in : {K : Type 0} → (ℕ → K) → List ℕ → Cut (Lent K)
 messages_in type_of s = cut_of (lent_message type_of) s
+
+-- the code at the front of bytes, 0 or the negated number of an error; 0 if there are too few
+abbrev pub code_or_zero : List ℕ → ℤ
+code_or_zero s = if nat_lt (length s) 4 then pos 0 else code_in s
+
+-- a message's code: that of an error or an acknowledgement (NLMSG_ERROR, 2), or of the end of a dump (NLMSG_DONE, 3)
+abbrev pub code_of : Lent ℕ → ℤ
+code_of m = if (m.0.message_type == 2) || (m.0.message_type == 3) then code_or_zero m.1 else pos 0
 
 -- ---- as an owned message
 

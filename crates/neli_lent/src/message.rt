@@ -8,9 +8,10 @@ ghost use Rattle.neli_reader.specs.Answers.{after};
 ghost use Rattle.neli_reader.specs.Messages.{message_of};
 ghost use Rattle.neli_reader.specs.NlPayload.TheVariants as payload;
 ghost use Rattle.neli_reader.specs.Retyping.{typed_header};
-ghost use Rattle.neli_lent.specs.Messages.{as_owned, as_owned_takes_memory, lent_message, message_view};
+ghost use Rattle.neli_lent.specs.Messages.{as_owned, as_owned_takes_memory, code_of, code_or_zero, lent_message, message_view};
 
 use crate::{LentAttrs, lend_payload};
+use byteorder::{ByteOrder, LittleEndian};
 use neli_consts::{MESSAGE_HEADER_SIZE, NLMSG_DONE, NLMSG_ERROR, NlType, NlmF};
 use neli_reader::{NlPayload, Nlmsghdr, NlmsghdrAck};
 use neli_wire::{Constant, Cursor, DeError, FromBytesWithInput, Header};
@@ -23,6 +24,16 @@ use std::io::ErrorKind;
 pub struct LentMessage<'b, T> {
     header: NlmsghdrAck<T>,
     payload: &'b [u8],
+}
+
+/// The code at the front of these bytes; 0 if they are too few.
+fn code_or_zero(payload: &[u8]) -> i32
+    ensures { result ≡ code_or_zero payload.now }
+{
+    if payload.len() < 4 {
+        return 0;
+    }
+    LittleEndian::read_i32(payload)
 }
 
 impl<'b, T> LentMessage<'b, T> {
@@ -153,6 +164,18 @@ impl<'b> LentMessage<'b, u16> {
     {
         let number = *self.nl_type();
         number != NLMSG_ERROR && number != NLMSG_DONE
+    }
+
+    /// The code of an error, of an acknowledgement (`NLMSG_ERROR`) or of the end of a dump (`NLMSG_DONE`), the first 4
+    /// bytes of its payload: 0, or the negated number of an error, as -19 for `ENODEV`. 0 of another message, and where
+    /// the payload has less than 4 bytes. It takes no memory.
+    pub fn code(&self) -> i32
+        ensures { result ≡ code_of (message_view self.now) }
+    {
+        match *self.nl_type() {
+            NLMSG_ERROR | NLMSG_DONE => code_or_zero(self.nl_payload()),
+            _ => 0,
+        }
     }
 
     /// The same message with the meaning of its type's number. It takes no memory.

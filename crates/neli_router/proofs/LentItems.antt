@@ -16,7 +16,7 @@ use Rattle.neli_reader.specs.NlPayload.{NlPayload}
 use Rattle.neli_reader.specs.NlPayload.TheVariants as payload
 use Rattle.neli_reader.specs.Nlmsgerr.{Nlmsgerr}
 use Rattle.neli_reader.specs.RouterError.TheVariants as router
-use Rattle.neli_lent.specs.Messages.{Lent, message_view}
+use Rattle.neli_lent.specs.Messages.{Lent, code_or_zero, message_view}
 use Rattle.neli_lent.specs.declared.message.LentMessage.{LentMessage}
 use Rattle.neli_deliveries.specs.declared.delivery.Delivery.{Delivery}
 use Rattle.neli_deliveries.specs.declared.delivery.Delivery.TheVariants as delivery
@@ -27,7 +27,7 @@ use Rattle.neli_log.specs.Lending.{IsFirstLent, IsLent, Lends, lent_heading}
 use Rattle.neli_log.specs.laws.Lending.{heading_lent}
 use Rattle.neli_log.specs.declared.lending.LentDelivery.{LentDelivery}
 use Rattle.neli_log.specs.declared.lending.LentDelivery.TheVariants as lent
-use Rattle.neli_router.specs.Lending.{IsErrorOf, IsLentItem, LentItem, code_or_zero, first_verdict, is_lent_flagged}
+use Rattle.neli_router.specs.Lending.{IsErrorOf, IsLentItem, LentItem, first_verdict, is_lent_flagged}
 use Rattle.neli_router.specs.Lending.{lent_answers, lent_end_code, lent_ends, lent_item, lent_last}
 use Rattle.neli_router.specs.Lending.{lent_last_verdict, lent_single, lent_step, lent_verdict, step_by, untyped}
 use Rattle.neli_router.specs.Lending.{with_step}

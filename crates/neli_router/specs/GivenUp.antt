@@ -4,7 +4,7 @@ use Rattle.std.specs.Prelude.{filter, is_some}
 use Rattle.std.specs.Prelude.{None, Option, Some}
 use Rattle.std.specs.List.{list_any}
 use Rattle.std.specs.Option.{option_map}
-use Rattle.neli_lent.specs.Messages.{Lent}
+use Rattle.neli_lent.specs.Messages.{Lent, code_of}
 use Rattle.neli_deliveries.specs.declared.delivery.Delivery.{Delivery}
 use Rattle.neli_router.specs.declared.given_up.GivenUp.{GivenUp}
 use Rattle.neli_router.specs.declared.verdict.Heard.{Heard}
@@ -31,7 +31,7 @@ still_open pending requests = filter (λ g. is_some (pending (Some g.number))) r
 abbrev pub ends_it : ℕ → GivenUp → Lent ℕ → Bool
 ends_it port g m =
     (m.0.port == port)
-    && ((m.0.sequence_number == g.number) && ends_answer g.answering m.0.message_type m.0.flags)
+    && ((m.0.sequence_number == g.number) && ends_answer g.answering m.0.message_type m.0.flags (code_of m))
 
 -- the answer to a request that was given up ends with these messages
 abbrev pub has_end : ℕ → List GivenUp → List (Lent ℕ) → ℕ → Bool

@@ -1,15 +1,14 @@
 -- Lent reads: the item that is lent, and what the step past it changes.
-use Rattle.std.specs.Prelude.{◌≡◌, ℕ, ℤ, pos, Bool, true, false, not, ◌&&◌, ◌||◌, ◌==◌, nat_lt, bit_and, if◌then◌else◌}
+use Rattle.std.specs.Prelude.{◌≡◌, ℕ, ℤ, pos, Bool, true, false, not, ◌&&◌, ◌||◌, ◌==◌, bit_and, if◌then◌else◌}
 use Rattle.std.specs.Prelude.{List, length, ◌<◌, Result, Ok, Err}
 use Rattle.neli_wire.specs.declared.errors.DeError.{DeError}
-use Rattle.neli_reader.specs.Answers.{code_in}
 use Rattle.neli_reader.specs.Framed.{Nlmsghdr}
 use Rattle.neli_reader.specs.Kinds.{is_acknowledged, is_multi}
 use Rattle.neli_reader.specs.NlPayload.{NlPayload}
 use Rattle.neli_reader.specs.NlPayload.TheVariants as payload
 use Rattle.neli_reader.specs.Retyping.{IsTyped, IsTypedError}
 use Rattle.neli_reader.specs.RouterError.TheVariants as router
-use Rattle.neli_lent.specs.Messages.{Lent, message_view}
+use Rattle.neli_lent.specs.Messages.{Lent, code_or_zero, message_view}
 use Rattle.neli_lent.specs.declared.message.LentMessage.{LentMessage}
 use Rattle.neli_deliveries.specs.declared.delivery.Delivery.{Delivery}
 use Rattle.neli_deliveries.specs.declared.delivery.Delivery.TheVariants as delivery
@@ -64,10 +63,6 @@ IsLentReply item (reply.Item l) = IsLentItem item l
 IsLentReply item r = ⊥
 
 -- ---- the same by the header and the payload's bytes, as the code decides it
-
--- the code at the front of bytes; 0 if there are too few
-abbrev pub code_or_zero : List ℕ → ℤ
-code_or_zero s = if nat_lt (length s) 4 then pos 0 else code_in s
 
 -- a message of type 2 (NLMSG_ERROR) answers
 abbrev pub lent_answers : Lent ℕ → Bool

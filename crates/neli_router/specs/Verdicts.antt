@@ -93,9 +93,9 @@ module _ {K P : Type 0} (number_of : K → ℕ) (needs numbered : Bool) where
 
 -- ---- where the other side's answer ends
 
--- the last message of an answer, by its type and its flags; no stray and no fault is one
+-- the last message of an answer, by its type and its flags, as any error is; no stray and no fault is one
 abbrev pub is_last : Answering → Heading → Bool
-is_last answering (heading.Message type flags) = ends_answer answering type flags
+is_last answering (heading.Message type flags) = ends_answer answering type flags (pos 0)
 is_last answering heading.Other = false
 
 -- the same of a delivery, by its message's header
@@ -104,7 +104,8 @@ is_last_delivery answering d = is_last answering (heading_of d)
 
 -- the same of an item in a list; an error in place of a message is none
 abbrev pub is_last_item : {K P : Type 0} → (K → ℕ) → Answering → Item K P → Bool
-is_last_item number_of answering (Ok m) = ends_answer answering (number_of m.header.message_type) m.header.flags
+is_last_item number_of answering (Ok m) =
+    ends_answer answering (number_of m.header.message_type) m.header.flags (pos 0)
 is_last_item number_of answering (Err e) = false
 
 -- complete only where the other side's answer has ended too

@@ -42,7 +42,7 @@ fn ends_it(port: u32, request: &GivenUp, message: &LentMessage<'_, u16>) -> bool
         && *message.nl_seq() == request.number
         && request
             .answering
-            .ends_with(*message.nl_type(), *message.nl_flags())
+            .ends_with(*message.nl_type(), *message.nl_flags(), message.code())
 }
 
 /// Whether the last message that answers this request is among those of these bytes.

@@ -6,7 +6,7 @@ ghost use Rattle.neli_lent.specs.Messages.{message_view};
 ghost use Rattle.neli_deliveries.specs.Lists.{SameListsBut};
 ghost use Rattle.neli_deliveries.specs.declared.delivery.Delivery.{Delivery as Waiting};
 ghost use Rattle.neli_log.specs.Log.{pending_of};
-ghost use Rattle.neli_router.specs.Lending.{IsLentReply, code_or_zero, lent_end_code, lent_ends, lent_error_verdict};
+ghost use Rattle.neli_router.specs.Lending.{IsLentReply, lent_end_code, lent_ends, lent_error_verdict};
 ghost use Rattle.neli_router.specs.Lending.{lent_item, lent_last, lent_single, lent_step, lent_verdict};
 ghost use Rattle.neli_router.specs.Lending.{is_lent_flagged, untyped, with_step};
 ghost use Rattle.neli_router.specs.Reads.{GoesPast, item_for};
@@ -56,16 +56,6 @@ pub enum LentReply<'b> {
     End,
     /// No item has arrived yet.
     Waits,
-}
-
-/// The code at the front of an answer or of the end of a dump; 0 if these bytes are too few.
-fn code_of(payload: &[u8]) -> i32
-    ensures { result ≡ code_or_zero payload.now }
-{
-    if payload.len() < 4 {
-        return 0;
-    }
-    LittleEndian::read_i32(payload)
 }
 
 /// Whether the payload of an answer is an acknowledgement, and no error.
@@ -122,7 +112,7 @@ fn last_item<'b>(
     } else if state.single_given {
         Err(LentError::NoAck)
     } else {
-        Err(LentError::Answer(code_of(payload), message))
+        Err(LentError::Answer(message.code(), message))
     }
 }
 
@@ -152,7 +142,7 @@ fn end_code(message: &LentMessage<'_, u16>) -> i32
     ensures { result ≡ lent_end_code (message_view message.now) }
 {
     if *message.nl_type() == NLMSG_DONE && message.nl_flags().contains(NlmF::MULTI) {
-        code_of(message.nl_payload())
+        message.code()
     } else {
         0
     }

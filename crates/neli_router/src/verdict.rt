@@ -65,7 +65,7 @@ pub(crate) fn is_last(answering: Answering, heading: Heading) -> bool
     ensures { result ≡ is_last answering heading }
 {
     match heading {
-        Heading::Message(nl_type, nl_flags) => answering.ends_with(nl_type, nl_flags),
+        Heading::Message(nl_type, nl_flags) => answering.ends_with(nl_type, nl_flags, 0),
         Heading::Other => false,
     }
 }

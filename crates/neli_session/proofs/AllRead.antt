@@ -2,7 +2,6 @@
 use Rattle.std.proofs.Common.{ℕ, ◌≡◌, Bool, true, false, not, ◌&&◌, ◌||◌, List, [], ◌∷◌, ◌++◌, Option, Some, None, Ok, Err}
 use Rattle.std.proofs.Common.{refl, sym, subst, ap, ◌∙◌}
 use Rattle.std.specs.Prelude.{◌==◌, if◌then◌else◌, is_some}
-use Rattle.neli_answers.specs.Answers.{ends_answer}
 use Rattle.neli_answers.specs.declared.answering.Answering.{Answering}
 use Rattle.neli_lent.specs.Messages.{Lent}
 use Rattle.neli_session.specs.declared.change.Change.{Change}
@@ -13,7 +12,7 @@ use Rattle.neli_session.specs.declared.request.Request.{Request}
 use Rattle.neli_session.specs.declared.request.Stage.{Stage}
 use Rattle.neli_session.specs.declared.request.Stage.TheVariants as stage
 use Rattle.neli_session.specs.declared.request.Verdict.{Verdict}
-use Rattle.neli_session.specs.Requests.{answers, changed, heard, is_awaited, is_over}
+use Rattle.neli_session.specs.Requests.{answers, changed, ends, heard, is_awaited, is_over}
 use Rattle.neli_session.specs.Sessions.{after_all, after_own, is_own, kept, queued}
 use Rattle.neli_session.specs.Happenings.{Happening, Came, Changed, Read, after_happenings, answer, answer_since}
 use Rattle.neli_session.specs.Happenings.{came_for, left, loss_list, returned, returned_by, then_is}
@@ -60,34 +59,34 @@ made a e s w l t v f = record {
 module _ (a : Answering) (e : Bool) (v : Verdict) (f : Bool) (hs : List Happening) where
   -- a message came while the answer is awaited, and nothing was lost
   came : (s : Stage) (m : Lent ℕ) (w : List Item) (mine : Bool)
-      → (left (if mine then made a e (if ends_answer a m.0.message_type m.0.flags then stage.Ended else s)
+      → (left (if mine then made a e (if ends a m then stage.Ended else s)
       (w ++ Ok m ∷ []) None false v f else made a e s w None false v f)
-      ++ future (if mine then made a e (if ends_answer a m.0.message_type m.0.flags then stage.Ended
+      ++ future (if mine then made a e (if ends a m then stage.Ended
       else s) (w ++ Ok m ∷ []) None false v f else made a e s w None false v f) hs)
-      ≡ (w ++ []) ++ (if mine then Ok m ∷ (if ends_answer a m.0.message_type m.0.flags then []
+      ≡ (w ++ []) ++ (if mine then Ok m ∷ (if ends a m then []
       else future_at s a e hs) else future_at s a e hs)
-  came s m w true = ends (ends_answer a m.0.message_type m.0.flags)
+  came s m w true = by (ends a m)
     where
-      ends : (b : Bool) → (left (made a e (if b then stage.Ended else s) (w ++ Ok m ∷ []) None false v f)
+      by : (b : Bool) → (left (made a e (if b then stage.Ended else s) (w ++ Ok m ∷ []) None false v f)
           ++ future (made a e (if b then stage.Ended else s) (w ++ Ok m ∷ []) None false v f) hs)
           ≡ (w ++ []) ++ (Ok m ∷ (if b then [] else future_at s a e hs))
-      ends true = append-none ((w ++ Ok m ∷ []) ++ []) ∙ append-none (w ++ Ok m ∷ [])
+      by true = append-none ((w ++ Ok m ∷ []) ++ []) ∙ append-none (w ++ Ok m ∷ [])
           ∙ ap (λ (xs : List Item). xs ++ Ok m ∷ []) (sym (append-none w))
-      ends false = ap (λ (xs : List Item). xs ++ future_at s a e hs) (append-none (w ++ Ok m ∷ []))
+      by false = ap (λ (xs : List Item). xs ++ future_at s a e hs) (append-none (w ++ Ok m ∷ []))
           ∙ append-assoc w (Ok m ∷ []) (future_at s a e hs)
           ∙ ap (λ (xs : List Item). xs ++ (Ok m ∷ future_at s a e hs)) (sym (append-none w))
   came s m w false = refl
 
   -- a message came after a loss: it is not kept
-  came_late : (s : Stage) (m : Lent ℕ) (w : List Item) (x : Loss) (t mine ends : Bool)
-      → (left (if mine then made a e (if ends then stage.Ended else s) w (Some x) t v f
+  came_late : (s : Stage) (m : Lent ℕ) (w : List Item) (x : Loss) (t mine last : Bool)
+      → (left (if mine then made a e (if last then stage.Ended else s) w (Some x) t v f
       else made a e s w (Some x) t v f)
-      ++ future (if mine then made a e (if ends then stage.Ended else s) w (Some x) t v f
+      ++ future (if mine then made a e (if last then stage.Ended else s) w (Some x) t v f
       else made a e s w (Some x) t v f) hs)
       ≡ left (made a e s w (Some x) t v f) ++ []
   came_late s m w x t true true = refl
   came_late s m w x t true false = refl
-  came_late s m w x t false ends = refl
+  came_late s m w x t false last = refl
 
   -- the first loss is told after what waits
   told-last : (w : List Item) (y : Loss) → (w ++ Err y ∷ []) ++ [] ≡ (w ++ []) ++ Err y ∷ []
@@ -145,11 +144,11 @@ module _ (a : Answering) (e : Bool) (v : Verdict) (f : Bool) (hs : List Happenin
   step-by (Came group m) stage.Leaving w None true told = (let no = told refl in cc)
   step-by (Came group m) stage.Leaving w None false told = came stage.Leaving m w ((group == 0) || e)
   step-by (Came group m) stage.Leaving w (Some x) t told =
-      came_late stage.Leaving m w x t ((group == 0) || e) (ends_answer a m.0.message_type m.0.flags)
+      came_late stage.Leaving m w x t ((group == 0) || e) (ends a m)
   step-by (Came group m) stage.Awaited w None true told = (let no = told refl in cc)
   step-by (Came group m) stage.Awaited w None false told = came stage.Awaited m w ((group == 0) || e)
   step-by (Came group m) stage.Awaited w (Some x) t told =
-      came_late stage.Awaited m w x t ((group == 0) || e) (ends_answer a m.0.message_type m.0.flags)
+      came_late stage.Awaited m w x t ((group == 0) || e) (ends a m)
   step-by (Came group m) stage.Queued w None t told = refl
   step-by (Came group m) stage.Ended w None t told = refl
   step-by (Came group m) stage.Silent w None t told = refl

@@ -2,7 +2,6 @@
 use Rattle.std.proofs.Common.{ℕ, ℤ, ◌≡◌, ◌≤◌, Bool, true, false, not, ◌&&◌, ◌||◌, List, [], ◌∷◌, Option, Some, None, refl}
 use Rattle.std.proofs.Common.{arith, sym, subst, ap, ◌∙◌}
 use Rattle.std.specs.Prelude.{◌==◌, if◌then◌else◌, option_map}
-use Rattle.neli_answers.specs.Answers.{ends_answer}
 use Rattle.neli_answers.specs.declared.answering.Answering.{Answering}
 use Rattle.neli_lent.specs.Messages.{Lent}
 use Rattle.neli_session.specs.declared.change.Change.{Change}
@@ -11,8 +10,8 @@ use Rattle.neli_session.specs.declared.loss.Loss.{Loss}
 use Rattle.neli_session.specs.declared.request.Request.{Request}
 use Rattle.neli_session.specs.declared.request.Stage.{Stage}
 use Rattle.neli_session.specs.declared.request.Stage.TheVariants as stage
-use Rattle.neli_session.specs.Requests.{answers, changed, heard, is_awaited, is_over, lost, passed, passed_by, sent_at}
-use Rattle.neli_session.specs.Requests.{settled, unsent_at, untold}
+use Rattle.neli_session.specs.Requests.{answers, changed, ends, heard, is_awaited, is_over, lost, passed, passed_by}
+use Rattle.neli_session.specs.Requests.{sent_at, settled, unsent_at, untold}
 use Rattle.neli_session.specs.Mails.{is_dump}
 use Rattle.neli_session.specs.Sends.{is_running}
 use Rattle.neli_session.specs.Sessions.{after, after_all, after_own, among, closed, closed_at, is_own, kept, passed_at}
@@ -234,7 +233,7 @@ later-among f by q (n ∷ ns) o = go (n == q) (later-among f by q ns)
 -- ---- by what comes
 
 later-heard : (m : Lent ℕ) (r : Request) → is_awaited r.stage ≡ true → IsLater (Some r) (Some (heard m r))
-later-heard m r is = later-stage r (heard m r) refl (go (ends_answer r.answering m.0.message_type m.0.flags))
+later-heard m r is = later-stage r (heard m r) refl (go (ends r.answering m))
   where
     go : (b : Bool) → IsLaterStage r.stage (if b then stage.Ended else r.stage)
     go true = ended-stage r.stage is

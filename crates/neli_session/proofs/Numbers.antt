@@ -3,7 +3,7 @@ use Rattle.std.proofs.Common.{ℕ, ℤ, ◌≡◌, Bool, true, false, not, ◌&&
 use Rattle.std.proofs.Common.{None, Err, refl, sym, subst, ap, ◌∙◌, eq-eqb, eqb-true, append_assoc}
 use Rattle.std.specs.Prelude.{◌==◌, if◌then◌else◌, is_some}
 use Rattle.neli_wire.specs.declared.errors.DeError.{DeError}
-use Rattle.neli_answers.specs.Answers.{ends_answer, has_all}
+use Rattle.neli_answers.specs.Answers.{has_all}
 use Rattle.neli_answers.specs.declared.answering.Answering.{Answering}
 use Rattle.neli_lent.specs.Messages.{Lent, messages_in}
 use Rattle.neli_session.specs.declared.change.Change.{Change}
@@ -22,7 +22,7 @@ use Rattle.neli_session.specs.Histories.{PassMulticast, PassUnasked, Quiet, Rece
 use Rattle.neli_session.specs.Histories.{happens, if_so, is_closed, is_in, is_sent_again, last, sends}
 use Rattle.neli_session.specs.Mails.{answering_by, answers_at_once, entries_of, entry_of, numbers_in, numbers_of}
 use Rattle.neli_session.specs.Messages.{messages_of}
-use Rattle.neli_session.specs.Requests.{answers, changed, first_item, heard, is_awaited, is_over, left_at, next_item}
+use Rattle.neli_session.specs.Requests.{answers, changed, ends, first_item, heard, is_awaited, is_over, left_at, next_item}
 use Rattle.neli_session.specs.Requests.{passed, passed_by, sent_at, settled, unsent_at, untold}
 use Rattle.neli_session.specs.Sessions.{after_all, after_own, among, at, closed, closed_at, is_own, kept}
 use Rattle.neli_session.specs.Sessions.{passed_at, queued, when}
@@ -280,9 +280,9 @@ track-own group m (Some o) r b t = subst (λ (c : Bool). Tracks (after_own group
     heard_alike = record {
       answering = t.answering;
       echoes = t.echoes;
-      stage_is = ap (λ (a : Answering). if ends_answer a m.0.message_type m.0.flags then stage.Ended else o.stage)
+      stage_is = ap (λ (a : Answering). if ends a m then stage.Ended else o.stage)
           t.answering
-          ∙ ap (λ (s : Stage). if ends_answer r.answering m.0.message_type m.0.flags then stage.Ended else s)
+          ∙ ap (λ (s : Stage). if ends r.answering m then stage.Ended else s)
           t.stage_is;
       open_is = t.open_is;
     }

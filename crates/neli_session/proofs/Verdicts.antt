@@ -8,7 +8,7 @@ use Rattle.std.specs.Ordering.{int_eq}
 use Rattle.neli_answers.specs.Answers.{has_all}
 use Rattle.neli_answers.specs.declared.answering.Answering.{Answering}
 use Rattle.neli_answers.specs.declared.answering.Answering.TheVariants as answered
-use Rattle.neli_lent.specs.Messages.{Lent}
+use Rattle.neli_lent.specs.Messages.{Lent, code_of}
 use Rattle.neli_session.specs.declared.change.Change.TheVariants as change
 use Rattle.neli_session.specs.declared.loss.Loss.{Loss}
 use Rattle.neli_session.specs.declared.loss.Loss.TheVariants as loss
@@ -17,14 +17,14 @@ use Rattle.neli_session.specs.declared.request.Stage.{Stage}
 use Rattle.neli_session.specs.declared.request.Stage.TheVariants as stage
 use Rattle.neli_session.specs.declared.request.Verdict.{Verdict}
 use Rattle.neli_session.specs.declared.request.Verdict.TheVariants as stands
-use Rattle.neli_session.specs.Requests.{answers, code_of, end_verdict, first_item, heard, item_verdict}
+use Rattle.neli_session.specs.Requests.{answers, end_verdict, ends, first_item, heard, item_verdict}
 use Rattle.neli_session.specs.Requests.{next_item, passed_by, unsent_at, untold}
 use Rattle.neli_session.specs.Requests.{verdict_at, verdict_of, verdict_with}
 use Rattle.neli_session.specs.Sessions.{queued}
 use Rattle.neli_session.specs.Happenings.{Happening, Came, Changed, Read, after_happenings, answer, answer_since}
 use Rattle.neli_session.specs.Happenings.{item_list, left, loss_list, returned, returned_by, stage_after, stage_by}
 use Rattle.neli_session.specs.Happenings.{then_is, unsent_stage}
-use Rattle.neli_session.specs.Verdicts.{AreClean, IsClean, IsWholeAnswer, ends, verdict_after}
+use Rattle.neli_session.specs.Verdicts.{AreClean, IsClean, IsWholeAnswer, verdict_after}
 use Rattle.neli_session.specs.Waiting.{Item, as_items}
 use Rattle.neli_session.proofs.AllRead.{reads-answer}
 

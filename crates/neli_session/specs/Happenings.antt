@@ -1,7 +1,6 @@
 -- All that happens to one request, and what its reads return.
 use Rattle.std.specs.Prelude.{◌≡◌, ℕ, Bool, true, false, ◌&&◌, ◌||◌, ◌==◌, if◌then◌else◌, List, [], ◌∷◌, ◌++◌}
 use Rattle.std.specs.Prelude.{Option, Some, None, Ok, Err}
-use Rattle.neli_answers.specs.Answers.{ends_answer}
 use Rattle.neli_answers.specs.declared.answering.Answering.{Answering}
 use Rattle.neli_lent.specs.Messages.{Lent}
 use Rattle.neli_session.specs.declared.change.Change.{Change}
@@ -11,7 +10,7 @@ use Rattle.neli_session.specs.declared.loss.Loss.TheVariants as loss
 use Rattle.neli_session.specs.declared.request.Request.{Request}
 use Rattle.neli_session.specs.declared.request.Stage.{Stage}
 use Rattle.neli_session.specs.declared.request.Stage.TheVariants as stage
-use Rattle.neli_session.specs.Requests.{answers, changed, heard, is_awaited, left_at, next_item, passed, sent_at}
+use Rattle.neli_session.specs.Requests.{answers, changed, ends, heard, is_awaited, left_at, next_item, passed, sent_at}
 use Rattle.neli_session.specs.Requests.{settled, untold}
 use Rattle.neli_session.specs.Sessions.{after_all, is_own, queued}
 use Rattle.neli_session.specs.Waiting.{Item}
@@ -62,7 +61,7 @@ unsent_stage s = s
 abbrev pub stage_after : Answering → Bool → Happening → Stage → Stage
 stage_after a echoes (Came group m) s =
     if is_awaited s && ((group == 0) || echoes)
-    then (if ends_answer a m.0.message_type m.0.flags then stage.Ended else s) else s
+    then (if ends a m then stage.Ended else s) else s
 stage_after a echoes (Changed change.Leave) s = left_at s
 stage_after a echoes (Changed change.Sent) s = sent_at s
 stage_after a echoes (Changed (change.Unsent errno)) s = unsent_stage s
@@ -87,7 +86,7 @@ abbrev pub answer_since : Bool → Answering → Bool → List Happening → Lis
 answer_since sent a echoes [] = []
 answer_since sent a echoes (Came group m ∷ hs) =
     if (group == 0) || echoes
-    then Ok m ∷ (if ends_answer a m.0.message_type m.0.flags then [] else answer_since sent a echoes hs)
+    then Ok m ∷ (if ends a m then [] else answer_since sent a echoes hs)
     else answer_since sent a echoes hs
 answer_since sent a echoes (Changed change.Leave ∷ hs) = answer_since sent a echoes hs
 answer_since sent a echoes (Changed change.Sent ∷ hs) = answer_since true a echoes hs

@@ -1,13 +1,12 @@
 -- A request: what comes for it, until nothing more can come.
-use Rattle.std.specs.Prelude.{ℕ, ℤ, pos, Bool, true, false, not, ◌&&◌, ◌||◌, ◌==◌, nat_eq, nat_lt, if◌then◌else◌}
-use Rattle.std.specs.Prelude.{List, [], ◌∷◌, ◌++◌, length, Option, Some, None, Ok, Err, is_some}
+use Rattle.std.specs.Prelude.{ℕ, ℤ, pos, Bool, true, false, not, ◌&&◌, ◌||◌, ◌==◌, nat_eq, if◌then◌else◌}
+use Rattle.std.specs.Prelude.{List, [], ◌∷◌, ◌++◌, Option, Some, None, Ok, Err, is_some}
 use Rattle.std.specs.Map.{lookup}
 use Rattle.std.specs.Ordering.{int_eq}
 use Rattle.neli_answers.specs.Answers.{ends_answer, has_all}
 use Rattle.neli_answers.specs.declared.answering.Answering.{Answering}
 use Rattle.neli_answers.specs.declared.answering.Answering.TheVariants as answered
-use Rattle.neli_reader.specs.Answers.{code_in}
-use Rattle.neli_lent.specs.Messages.{Lent}
+use Rattle.neli_lent.specs.Messages.{Lent, code_of}
 use Rattle.neli_session.specs.declared.change.Change.{Change}
 use Rattle.neli_session.specs.declared.change.Change.TheVariants as change
 use Rattle.neli_session.specs.declared.loss.Loss.{Loss}
@@ -46,11 +45,15 @@ keeps r = r.is_open && not (is_some r.loss)
 abbrev pub with_message : Lent ℕ → Request → List Item
 with_message m r = if keeps r then r.waiting ++ Ok m ∷ [] else r.waiting
 
+-- an answer of this kind ends with this message
+abbrev pub ends : Answering → Lent ℕ → Bool
+ends a m = ends_answer a m.0.message_type m.0.flags (code_of m)
+
 -- a message of its answer has come
 abbrev pub heard : Lent ℕ → Request → Request
 heard m r = record r {
   waiting = with_message m r;
-  stage = if ends_answer r.answering m.0.message_type m.0.flags then stage.Ended else r.stage;
+  stage = if ends r.answering m then stage.Ended else r.stage;
 }
 
 -- something was lost while its answer was awaited: the first loss counts
@@ -110,14 +113,6 @@ abbrev pub next_item : Request → Option Item
 next_item r = first_item r.waiting (untold r)
 
 -- ---- the verdict
-
--- the code at the front of bytes; 0 if there are too few
-abbrev pub code_or_zero : List ℕ → ℤ
-code_or_zero s = if nat_lt (length s) 4 then pos 0 else code_in s
-
--- a message has a code: an error or an acknowledgement (NLMSG_ERROR, 2), or the end of a dump (NLMSG_DONE, 3)
-abbrev pub code_of : Lent ℕ → ℤ
-code_of m = if (m.0.message_type == 2) || (m.0.message_type == 3) then code_or_zero m.1 else pos 0
 
 -- by a message: marked as interrupted (NLM_F_DUMP_INTR, 16), or with another code than 0
 abbrev pub message_verdict : Lent ℕ → Verdict

@@ -1,20 +1,15 @@
 -- When the verdict on an answer is that it is complete.
 use Rattle.std.specs.Prelude.{◌≡◌, ◌≢◌, ℕ, Bool, true, false, List, [], ◌∷◌, ◌++◌}
 use Rattle.std.specs.List.{All}
-use Rattle.neli_answers.specs.Answers.{ends_answer}
 use Rattle.neli_answers.specs.declared.answering.Answering.{Answering}
 use Rattle.neli_answers.specs.declared.answering.Answering.TheVariants as answered
 use Rattle.neli_lent.specs.Messages.{Lent}
 use Rattle.neli_session.specs.declared.request.Verdict.{Verdict}
 use Rattle.neli_session.specs.declared.request.Verdict.TheVariants as stands
 use Rattle.neli_session.specs.Happenings.{Happening, after_happenings, answer, returned_by}
-use Rattle.neli_session.specs.Requests.{message_verdict, verdict_of, verdict_with}
+use Rattle.neli_session.specs.Requests.{ends, message_verdict, verdict_of, verdict_with}
 use Rattle.neli_session.specs.Sessions.{queued}
 use Rattle.neli_session.specs.Waiting.{Item, as_items}
-
--- the answer ends with this message
-abbrev pub ends : Answering → Lent ℕ → Bool
-ends a m = ends_answer a m.0.message_type m.0.flags
 
 -- it decides no verdict: it is not marked as interrupted, and has no other code than 0
 abbrev pub IsClean : Lent ℕ → Type 0

@@ -2,11 +2,10 @@
 
 ghost use Rattle.std.specs.Prelude.{◌≡◌, ◌++◌, ◌∷◌, [], None, Ok, Some, if◌then◌else◌, OnErr, OnOk, true, false, option_map};
 ghost use Rattle.neli_lent.specs.Messages.{message_view};
-ghost use Rattle.neli_answers.specs.Answers.{ends_answer};
 ghost use Rattle.neli_session.specs.Messages.{IsMessage};
 ghost use Rattle.neli_session.specs.Readiness.{is_ready};
 ghost use Rattle.neli_session.specs.Waiting.{lent_item};
-ghost use Rattle.neli_session.specs.Requests.{answers, changed, code_of, code_or_zero, end_verdict, heard, is_awaited};
+ghost use Rattle.neli_session.specs.Requests.{answers, changed, end_verdict, ends, heard, is_awaited};
 ghost use Rattle.neli_session.specs.Requests.{is_marked, is_over, item_verdict, left_at, lost, message_verdict, next_item, passed};
 ghost use Rattle.neli_session.specs.Requests.{sent_at, settled, unsent, verdict_of};
 ghost use Rattle.neli_session.specs.Sends.{is_running};
@@ -16,9 +15,8 @@ use crate::Loss;
 use crate::change::Change;
 use crate::queue::Queue;
 use bitflags::Flags;
-use byteorder::{ByteOrder, LittleEndian};
 use neli_answers::Answering;
-use neli_consts::{NLMSG_DONE, NLMSG_ERROR, NlmF};
+use neli_consts::NlmF;
 use neli_lent::LentMessage;
 use neli_wire::NoMemory;
 use std::alloc::Global;
@@ -123,31 +121,11 @@ pub struct Request {
     pub(crate) is_filtered: bool,
 }
 
-/// The code at the front of these bytes; 0 if they are too few.
-fn code_or_zero(payload: &[u8]) -> i32
-    ensures { result ≡ code_or_zero payload.now }
-{
-    if payload.len() < 4 {
-        return 0;
-    }
-    LittleEndian::read_i32(payload)
-}
-
-/// The code of an error, an acknowledgement or the end of a dump; 0 of another message.
-fn code_of(message: &LentMessage<'_, u16>) -> i32
-    ensures { result ≡ code_of (message_view message.now) }
-{
-    match *message.nl_type() {
-        NLMSG_ERROR | NLMSG_DONE => code_or_zero(message.nl_payload()),
-        _ => 0,
-    }
-}
-
 /// The verdict by a message.
 fn message_verdict(message: &LentMessage<'_, u16>) -> Verdict
     ensures { result ≡ message_verdict (message_view message.now) }
 {
-    let code = code_of(message);
+    let code = message.code();
     if message.nl_flags().contains(NlmF::DUMP_INTR) {
         Verdict::Interrupted
     } else if code == 0 {
@@ -258,14 +236,12 @@ impl Request {
     /// Notes whether its answer ends with a message.
     fn note(&mut self, message: &LentMessage<'_, u16>)
         ensures { self.new ≡ record self.old {
-          stage = if ends_answer self.old.answering (message_view message.now).0.message_type
-              (message_view message.now).0.flags then Stage.Ended else self.old.stage;
+          stage = if ends self.old.answering (message_view message.now) then Stage.Ended
+              else self.old.stage;
         } }
     {
-        if self
-            .answering
-            .ends_with(*message.nl_type(), *message.nl_flags())
-        {
+        let (nl_type, flags) = (*message.nl_type(), *message.nl_flags());
+        if self.answering.ends_with(nl_type, flags, message.code()) {
             self.stage = Stage::Ended;
         }
     }

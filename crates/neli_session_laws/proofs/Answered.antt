@@ -15,9 +15,9 @@ use Rattle.neli_session.specs.declared.request.Verdict.TheVariants as stands
 use Rattle.neli_session.specs.Happenings.{Happening, ReadsAreTheAnswer, StagesFollow, after_happenings, left}
 use Rattle.neli_session.specs.declared.session.Session.{Session}
 use Rattle.neli_session.specs.Histories.{IsHistory, IsStep, Moment, RequestsAreFollowed, Send, happenings, last, read_of}
-use Rattle.neli_session.specs.Requests.{end_verdict, is_over, verdict_at, verdict_of}
+use Rattle.neli_session.specs.Requests.{end_verdict, ends, is_over, verdict_at, verdict_of}
 use Rattle.neli_session.specs.Sessions.{queued}
-use Rattle.neli_session.specs.Verdicts.{ReadsAreNoted, ends, verdict_after}
+use Rattle.neli_session.specs.Verdicts.{ReadsAreNoted, verdict_after}
 use Rattle.neli_session.specs.Waiting.{Item, as_items}
 use Rattle.neli_session_laws.specs.Answered.{IsAnswered, IsWholeAnswer, RequestsAreAnswered, verdict_on}
 use Rattle.neli_session_laws.specs.Busy.{NoDumpIsRefused, NoneIsRefused, calls_of}

@@ -20,12 +20,11 @@ use Rattle.neli_session.specs.Histories.{IsOfOne, IsStep, Moment, NotSent, Outgo
 use Rattle.neli_session.specs.Histories.{PassUnasked, Quiet, Receive, Send, Sent, is_in, last}
 use Rattle.neli_session.specs.Mails.{Mail, answers_at_once, entries_of, is_dump, next_out, numbers_in, on_its_way}
 use Rattle.neli_session.specs.Messages.{messages_of}
-use Rattle.neli_session.specs.Requests.{answers, changed, heard, is_awaited, is_over, left_at, passed_by}
+use Rattle.neli_session.specs.Requests.{answers, changed, ends, heard, is_awaited, is_over, left_at, passed_by}
 use Rattle.neli_session.specs.Requests.{sent_at, unsent_at, untold}
 use Rattle.neli_session.specs.Sends.{first_taken, is_running, runs_now, with_entries, with_entry}
 use Rattle.neli_session.specs.Sessions.{after, after_all, after_own, among, at, closed, closed_at, is_own, kept}
 use Rattle.neli_session.specs.Sessions.{passed_at, queued, when}
-use Rattle.neli_session.specs.Verdicts.{ends}
 use Rattle.neli_session.specs.Waiting.{Item}
 use Rattle.neli_session_laws.specs.Busy.{carries_dump, is_busy, is_ever_busy, runs_after, runs_past, runs_past_all}
 

@@ -18,9 +18,8 @@ use Rattle.neli_session.specs.Histories.{PassAnswer, PassMulticast, PassUnasked,
 use Rattle.neli_session.specs.Histories.{happenings, happens, if_so, is_in}
 use Rattle.neli_session.specs.Mails.{answers_at_once, numbers_in}
 use Rattle.neli_session.specs.Messages.{messages_of}
-use Rattle.neli_session.specs.Requests.{is_awaited, is_over}
+use Rattle.neli_session.specs.Requests.{ends, is_awaited, is_over}
 use Rattle.neli_session.specs.Sessions.{is_own}
-use Rattle.neli_session.specs.Verdicts.{ends}
 use Rattle.neli_session.specs.Waiting.{Item, as_items}
 use Rattle.neli_session_laws.specs.Answered.{IsWholeAnswer}
 use Rattle.neli_session_laws.specs.Served.{Comes, ComesOnceOut, IsFine, brought, goes_out, own_of, sent_after}

@@ -1,5 +1,5 @@
 -- The simulator's answers are whole, and their verdicts.
-use Rattle.std.proofs.Common.{ℕ, pos, ◌≡◌, ◌≢◌, ◌+◌, Bool, true, false, not, ◌&&◌, ◌||◌, ltb, All, List, [], ◌∷◌, ◌++◌, length}
+use Rattle.std.proofs.Common.{ℕ, pos, negsuc, ◌≡◌, ◌≢◌, ◌+◌, Bool, true, false, not, ◌&&◌, ◌||◌, ltb, All, List, [], ◌∷◌, ◌++◌, length}
 use Rattle.std.proofs.Common.{None, Ok, Err, refl, sym, subst, ap, ◌∙◌, arith, append_assoc, append-nil, inl, inr}
 use Rattle.std.proofs.Common.{length-append}
 use Rattle.std.specs.Prelude.{◌⊎◌, ◌==◌, ℤ, FitsSigned, bit_or, if◌then◌else◌}
@@ -9,14 +9,14 @@ use Rattle.std.proofs.Math.Facts.{Fits-of_z}
 use Rattle.std.proofs.lemmas.Bool.{eq-eqb, le-ltb, ne_eqb}
 use Rattle.std.proofs.lemmas.Bool.Decides.{Decides-int_eq}
 use Rattle.std.proofs.lemmas.Int.{fits_signed_from_abs, to_z-of_z}
-use Rattle.std.proofs.lemmas.List.Elements.{All-head, All-nil, All-push, All-tail}
+use Rattle.std.proofs.lemmas.List.Elements.{All-cons, All-head, All-nil, All-push, All-tail}
 use Rattle.std.proofs.lemmas.Nat.{and_or_apart}
 use Rattle.byteorder.specs.Numbers.{little_number-reads_back}
 use Rattle.neli_wire.specs.Frames.{number_in}
 use Rattle.neli_wire.specs.Numbers.{signed_bytes, signed_number}
 use Rattle.neli_wire.specs.Writing.{Wire, ◌+++◌, zeros_for}
 use Rattle.neli_wire.specs.laws.Numbers.{count-signed}
-use Rattle.neli_answers.specs.Answers.{has_all, is_part}
+use Rattle.neli_answers.specs.Answers.{ends_answer, has_all, is_part, leaves_dump_running}
 use Rattle.neli_answers.specs.declared.answering.Answering.{Answering}
 use Rattle.neli_answers.specs.declared.answering.Answering.TheVariants as answered
 use Rattle.neli_consts.specs.declared.nlm_f.NlmF.{NlmF}
@@ -25,7 +25,7 @@ use Rattle.neli_kernel.specs.Datagrams.{AreRead}
 use Rattle.neli_kernel.specs.Delivered.{AreReadBack, IsAnswer, IsEnd, end_said}
 use Rattle.neli_kernel.specs.Dumps.{Packed, datagrams_of, dump_end, finished, with_multi}
 use Rattle.neli_kernel.specs.declared.request.Request.{Request}
-use Rattle.neli_lent.specs.Messages.{Lent, messages_in}
+use Rattle.neli_lent.specs.Messages.{Lent, code_of, code_or_zero, messages_in}
 use Rattle.neli_lent.specs.Written.{IsWalked}
 use Rattle.neli_reader.specs.Answers.{Attributes}
 use Rattle.neli_reader.specs.Cuts.{Cut}
@@ -34,15 +34,15 @@ use Rattle.neli_reader.specs.Headers.{flags_of, header_wire}
 use Rattle.neli_reader.specs.Wires.{attributes_wire, echo_wire}
 use Rattle.neli_session.specs.declared.request.Verdict.{Verdict}
 use Rattle.neli_session.specs.declared.request.Verdict.TheVariants as stands
-use Rattle.neli_session.specs.Requests.{code_of, code_or_zero, message_verdict, verdict_at}
-use Rattle.neli_session.specs.Verdicts.{ends, verdict_after}
-use Rattle.neli_session.specs.Waiting.{as_items}
+use Rattle.neli_session.specs.Requests.{ends, message_verdict, verdict_at}
+use Rattle.neli_session.specs.Verdicts.{verdict_after}
+use Rattle.neli_session.specs.Waiting.{Item, as_items}
 use Rattle.neli_session.specs.Histories.{Receive}
 use Rattle.neli_session.specs.Messages.{messages_of}
 use Rattle.neli_session_laws.specs.Served.{brought, own_of}
 use Rattle.neli_session_laws.specs.Answered.{IsWholeAnswer, verdict_on}
-use Rattle.neli_session_laws.specs.Given.{Acknowledged, Dumped, IsAcknowledged, IsDumped, IsFor, IsPart, IsRefused, IsReplied}
-use Rattle.neli_session_laws.specs.Given.{IsSimulated, Refused, Replied}
+use Rattle.neli_session_laws.specs.Given.{Acknowledged, Delayed, Dumped, Ends, IsAcknowledged, IsDelayed, IsDumped, IsFor}
+use Rattle.neli_session_laws.specs.Given.{IsPart, IsRefused, IsReplied, IsSimulated, Refused, Replied}
 use Rattle.neli_session_laws.specs.Given.{verdict_by}
 use Rattle.neli_session_laws.proofs.Coming.{All-as}
 
@@ -65,7 +65,13 @@ part-not-last asked m (own, (two, three), unmarked) = ne_eqb _ _ two
 
 part-not-end : (asked : Request) (m : Lent ℕ) → IsPart asked m → ends answered.Dump m ≡ false
 part-not-end asked m (own, (two, three), unmarked) =
-    ap (λ (b : Bool). b || (m.0.message_type == 3)) (ne_eqb _ _ two) ∙ ne_eqb _ _ three
+    ap (λ (b : Bool). (not (leaves_dump_running (code_of m)) && b) || (m.0.message_type == 3)) (ne_eqb _ _ two)
+    ∙ ap (λ (b : Bool). (not (leaves_dump_running (code_of m)) && false) || b) (ne_eqb _ _ three)
+    ∙ neither (not (leaves_dump_running (code_of m)))
+  where
+    neither : (b : Bool) → ((b && false) || false) ≡ false
+    neither true = refl
+    neither false = refl
 
 -- messages with a body before the last decide nothing
 after-parts : (asked : Request) (parts : List (Lent ℕ)) (last : Lent ℕ) → All (IsPart asked) parts
@@ -92,14 +98,15 @@ code-read code rest fits =
     let says : signed_number w32 4 s ≡ code = ap (cast_signed w32) number ∙ to_z-of_z w32 code fits in
     ap (λ (b : Bool). if b then pos 0 else signed_number w32 4 s) enough ∙ says
 
-coded-verdict : (m : Lent ℕ) (code : ℤ) (rest : List ℕ) → has_all 16 m.0.flags ≡ false
-    → ((m.0.message_type == 2) || (m.0.message_type == 3)) ≡ true → m.1 ≡ signed_bytes w32 4 code ++ rest
-    → FitsSigned w32 code → message_verdict m ≡ coded code
-coded-verdict m code rest unmarked kind bytes fits =
-    ap (λ (b : Bool). if b then stands.Interrupted else coded (code_of m)) unmarked
-    ∙ ap (λ (b : Bool). coded (if b then code_or_zero m.1 else pos 0)) kind
-    ∙ ap (λ (s : List ℕ). coded (code_or_zero s)) bytes
-    ∙ ap coded (code-read code rest fits)
+code-of : (m : Lent ℕ) (code : ℤ) (rest : List ℕ) → ((m.0.message_type == 2) || (m.0.message_type == 3)) ≡ true
+    → m.1 ≡ signed_bytes w32 4 code ++ rest → FitsSigned w32 code → code_of m ≡ code
+code-of m code rest kind bytes fits =
+    ap (λ (b : Bool). if b then code_or_zero m.1 else pos 0) kind
+    ∙ ap code_or_zero bytes ∙ code-read code rest fits
+
+coded-verdict : (m : Lent ℕ) (code : ℤ) → has_all 16 m.0.flags ≡ false → code_of m ≡ code → message_verdict m ≡ coded code
+coded-verdict m code unmarked is =
+    ap (λ (b : Bool). if b then stands.Interrupted else coded (code_of m)) unmarked ∙ ap coded is
 
 coded-last : (code : ℤ) → verdict_at (coded code) None stands.Complete ≡ verdict_by code
 coded-last code = go (int_eq code (pos 0))
@@ -134,6 +141,7 @@ read-same bytes m said one read = sym read.0 ∙ append-nil (messages_in (λ n. 
 record IsCoded (asked : Request) (code : ℤ) (m : Lent ℕ) : Type 0 where
   own : IsFor asked m
   kind : m.0.message_type ≡ 2
+  code_is : code_of m ≡ code
   verdict : message_verdict m ≡ coded code
 
 one-same : (x y : Lent ℕ) → x ∷ [] ≡ y ∷ [] → x ≡ y
@@ -150,30 +158,33 @@ coded-one : (asked : Request) (m : Lent ℕ) (code : ℤ) (body : List ℕ) (w v
     → m.1 ≡ body ++ zeros_for (16 + length body) → FitsSigned w32 code → IsCoded asked code m
 coded-one asked m code body w v own kind unmarked written bytes fits =
     let front = begins (signed_bytes w32 4 code) w v body written in
-    record {
-      own = own;
-      kind = kind;
-      verdict = coded-verdict m code (front.0 ++ zeros_for (16 + length body)) unmarked
-          (ap (λ (n : ℕ). (n == 2) || (n == 3)) kind)
-          (bytes ∙ ap (λ (s : List ℕ). s ++ zeros_for (16 + length body)) front.1
-          ∙ append_assoc (signed_bytes w32 4 code) front.0 (zeros_for (16 + length body))) fits;
-    }
+    let is = code-of m code (front.0 ++ zeros_for (16 + length body)) (ap (λ (n : ℕ). (n == 2) || (n == 3)) kind)
+    (bytes ∙ ap (λ (s : List ℕ). s ++ zeros_for (16 + length body)) front.1
+    ∙ append_assoc (signed_bytes w32 4 code) front.0 (zeros_for (16 + length body))) fits in
+    record { own = own; kind = kind; code_is = is; verdict = coded-verdict m code unmarked is }
 
--- such a message alone is all of an answer
-alone-whole : (a : Answering) (m : Lent ℕ) → m.0.message_type ≡ 2 → IsWholeAnswer a (m ∷ [])
-alone-whole a m kind = record {
+-- such a message alone is all of an answer that its code ends
+alone-whole : (a : Answering) (asked : Request) (code : ℤ) (m : Lent ℕ) → IsCoded asked code m → Ends a code
+    → IsWholeAnswer a (m ∷ [])
+alone-whole a asked code m is by = record {
   front = [];
   last = m;
   are = refl;
   not_before = All-nil (λ m. ends a m ≡ false);
-  at_last = error-ends a;
+  at_last = ap (λ (n : ℕ). ends_answer a n m.0.flags (code_of m)) is.kind
+      ∙ ap (λ (c : ℤ). ends_answer a 2 m.0.flags c) is.code_is ∙ by m.0.flags;
 }
-  where
-    error-ends : (a : Answering) → ends a m ≡ true
-    error-ends answered.Dump = ap (λ (n : ℕ). (n == 2) || (n == 3)) kind
-    error-ends answered.Acknowledgement = ap (λ (n : ℕ). n == 2) kind
-    error-ends answered.Reply = ap (λ (n : ℕ). (n == 2) || ((n == 3) || not (is_part m.0.flags))) kind
-    error-ends answered.Silence = ap (λ (n : ℕ). n == 2) kind
+
+-- such a message with ENOBUFS does not end a dump
+begins-dump : (asked : Request) (m : Lent ℕ) → IsCoded asked (negsuc 104) m → ends answered.Dump m ≡ false
+begins-dump asked m is =
+    ap (λ (n : ℕ). ends_answer answered.Dump n m.0.flags (code_of m)) is.kind
+    ∙ ap (λ (c : ℤ). ends_answer answered.Dump 2 m.0.flags c) is.code_is
+
+-- a verdict that is not pending stays
+failed-stays : (code : ℤ) (xs : List Item) → verdict_after (stands.Failed code) xs ≡ stands.Failed code
+failed-stays code [] = refl
+failed-stays code (x ∷ xs) = failed-stays code xs
 
 -- ---- what is known of the kernel's bytes
 
@@ -284,23 +295,24 @@ module _ (acks : AreAcknowledged) (capped : AreFramed capped_error) (errors : Ar
         all-own asked said is.replies is.last is.are is.parts coded_is.own,
       )
 
-  refused-whole : (a : Answering) (asked : Request) (code : ℤ) (said : List (Lent ℕ)) → IsRefused asked code said
-      → IsJudged asked a said (stands.Failed code)
-  refused-whole a asked code said is = by is.is
+  refused-failed : (asked : Request) (code : ℤ) (said : List (Lent ℕ)) → IsRefused asked code said
+      → IsFailed asked code said
+  refused-failed asked code said is = by is.is
     where
-      failed : IsFailed asked code said → IsJudged asked a said (stands.Failed code)
-      failed f = (
-        subst (λ (ms : List (Lent ℕ)). IsWholeAnswer a ms) (sym f.are) (alone-whole a f.only f.coded_is.kind),
+      by : IsAnswer asked (capped_error asked code is.attrs) is.bytes
+          ⊎ IsAnswer asked (error asked code is.attrs) is.bytes → IsFailed asked code said
+      by (inl answer) = capped-coded asked code is.attrs is.bytes said is.fits answer is.read
+      by (inr answer) = error-coded asked code is.attrs is.bytes said is.fits answer is.read
+
+  refused-whole : (a : Answering) (asked : Request) (code : ℤ) (said : List (Lent ℕ)) → IsRefused asked code said
+      → Ends a code → IsJudged asked a said (stands.Failed code)
+  refused-whole a asked code said is ended =
+      let f = refused-failed asked code said is in (
+        subst (λ (ms : List (Lent ℕ)). IsWholeAnswer a ms) (sym f.are) (alone-whole a asked code f.only f.coded_is ended),
         ap (λ (ms : List (Lent ℕ)). verdict_on ms) f.are ∙ ap verdict_last f.coded_is.verdict ∙ coded-last code
             ∙ fails-by code is.some,
         all-own asked said [] f.only f.are (All-nil (IsPart asked)) f.coded_is.own,
       )
-
-      by : IsAnswer asked (capped_error asked code is.attrs) is.bytes
-          ⊎ IsAnswer asked (error asked code is.attrs) is.bytes
-          → IsJudged asked a said (stands.Failed code)
-      by (inl answer) = failed (capped-coded asked code is.attrs is.bytes said is.fits answer is.read)
-      by (inr answer) = failed (error-coded asked code is.attrs is.bytes said is.fits answer is.read)
 
   replied-whole : (asked : Request) (said : List (Lent ℕ)) → IsReplied asked said
       → IsJudged asked answered.Reply said stands.Complete
@@ -332,14 +344,35 @@ module _ (acks : AreAcknowledged) (capped : AreFramed capped_error) (errors : Ar
           last = last;
           are = are;
           not_before = All-as (part-not-end asked) is.dumped is.parts;
-          at_last = refl;
+          at_last = or-true (not (leaves_dump_running (code_of last)) && false);
         },
         ap (λ (ms : List (Lent ℕ)). verdict_on ms) are
             ∙ ap verdict_last (after-parts asked is.dumped last is.parts
-            ∙ coded-verdict last code is.text (unmarked-answer (bit_or is.flags.0 2) is.attrs unmarked) refl refl
-            is.fits.code_fits)
+            ∙ coded-verdict last code (unmarked-answer (bit_or is.flags.0 2) is.attrs unmarked)
+            (code-of last code is.text refl refl is.fits.code_fits))
             ∙ coded-last code,
         all-own asked said is.dumped last are is.parts (refl, refl),
+      )
+
+  delayed-whole : (asked : Request) (said : List (Lent ℕ)) → IsDelayed asked said
+      → IsJudged asked answered.Dump said (stands.Failed (negsuc 104))
+  delayed-whole asked said is =
+      let f = refused-failed asked (negsuc 104) is.refusal is.refused in
+      let dump = dumped-whole asked is.code is.dump is.dumped in
+      let are : said ≡ f.only ∷ is.dump = is.are ∙ ap (λ (ms : List (Lent ℕ)). ms ++ is.dump) f.are in (
+        record {
+          front = f.only ∷ dump.0.front;
+          last = dump.0.last;
+          are = are ∙ ap (λ (ms : List (Lent ℕ)). f.only ∷ ms) dump.0.are;
+          not_before = All-cons (λ m. ends answered.Dump m ≡ false) f.only dump.0.front
+              (begins-dump asked f.only f.coded_is) dump.0.not_before;
+          at_last = dump.0.at_last;
+        },
+        ap (λ (ms : List (Lent ℕ)). verdict_on ms) are
+            ∙ ap verdict_last (ap (λ (v : Verdict). verdict_after v (as_items is.dump)) f.coded_is.verdict
+            ∙ failed-stays (negsuc 104) (as_items is.dump)),
+        subst (λ (ms : List (Lent ℕ)). All (IsFor asked) ms) (sym are)
+            (All-cons (IsFor asked) f.only is.dump f.coded_is.own dump.2),
       )
 
   pub simulated_whole : (asked : Request) (said : List (Lent ℕ)) (a : Answering) (v : Verdict)
@@ -347,7 +380,8 @@ module _ (acks : AreAcknowledged) (capped : AreFramed capped_error) (errors : Ar
   simulated_whole asked said _ _ (Acknowledged is) = acknowledged-whole asked said is
   simulated_whole asked said _ _ (Replied is) = replied-whole asked said is
   simulated_whole asked said _ _ (Dumped code is) = dumped-whole asked code said is
-  simulated_whole asked said _ _ (Refused a code is) = refused-whole a asked code said is
+  simulated_whole asked said _ _ (Refused a code is ended) = refused-whole a asked code said is ended
+  simulated_whole asked said _ _ (Delayed is) = delayed-whole asked said is
 
 -- ---- what a datagram brings
 

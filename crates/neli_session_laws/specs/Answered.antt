@@ -7,9 +7,9 @@ use Rattle.neli_session.specs.declared.request.Verdict.{Verdict}
 use Rattle.neli_session.specs.declared.request.Verdict.TheVariants as stands
 use Rattle.neli_session.specs.Happenings.{left}
 use Rattle.neli_session.specs.Histories.{last as session_after, read_of}
-use Rattle.neli_session.specs.Requests.{verdict_at, verdict_of}
+use Rattle.neli_session.specs.Requests.{ends, verdict_at, verdict_of}
 use Rattle.neli_session.specs.Sessions.{at, has_ended}
-use Rattle.neli_session.specs.Verdicts.{ends, verdict_after}
+use Rattle.neli_session.specs.Verdicts.{verdict_after}
 use Rattle.neli_session.specs.Waiting.{as_items}
 use Rattle.neli_session_laws.specs.Served.{Exchange, IsServed, answering, number}
 

@@ -8,7 +8,7 @@ use Rattle.neli_session.specs.Histories.{Call, IsHistory, IsNew, Moment, NotSent
 use Rattle.neli_session.specs.Mails.{Mail, answers_at_once, running_with}
 use Rattle.neli_session.specs.Messages.{messages_of}
 use Rattle.neli_session.specs.Sessions.{is_own}
-use Rattle.neli_session.specs.Verdicts.{ends}
+use Rattle.neli_session.specs.Requests.{ends}
 use Rattle.neli_session_laws.specs.Served.{Exchange}
 
 -- ---- which dump runs, by its number: it begins when its request goes out, and ends when its last message comes

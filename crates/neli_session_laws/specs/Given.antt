@@ -1,9 +1,9 @@
 -- The simulator's answers to a request, as the messages that they are read as.
-use Rattle.std.specs.Prelude.{◌≡◌, ◌≢◌, ◌⊎◌, ◌&&◌, ◌||◌, ◌==◌, ℕ, ℤ, pos, Bool, false, All, FitsSigned, List, [], ◌∷◌}
+use Rattle.std.specs.Prelude.{◌≡◌, ◌≢◌, ◌⊎◌, ◌&&◌, ◌||◌, ◌==◌, ℕ, ℤ, pos, negsuc, Bool, true, false, All, FitsSigned, List, [], ◌∷◌}
 use Rattle.std.specs.Prelude.{◌++◌, if◌then◌else◌, Ok}
 use Rattle.std.specs.Int.{w32}
 use Rattle.std.specs.Ordering.{int_eq}
-use Rattle.neli_answers.specs.Answers.{has_all, is_part}
+use Rattle.neli_answers.specs.Answers.{ends_answer, has_all, is_part}
 use Rattle.neli_answers.specs.declared.answering.Answering.{Answering}
 use Rattle.neli_answers.specs.declared.answering.Answering.TheVariants as answered
 use Rattle.neli_consts.specs.declared.nlm_f.NlmF.{NlmF}
@@ -40,7 +40,7 @@ pub record IsAcknowledged (asked : Request) (said : List (Lent ℕ)) : Type 0 wh
   pub read : AreRead (bytes ∷ []) (last ∷ [])
   pub are : said ≡ replies ++ last ∷ []
 
--- an error with this code, capped or with the whole request
+-- an error with this code, negated, capped or with the whole request
 pub record IsRefused (asked : Request) (code : ℤ) (said : List (Lent ℕ)) : Type 0 where
   pub some : code ≢ pos 0
   pub fits : FitsSigned w32 code
@@ -74,17 +74,32 @@ pub record IsDumped (asked : Request) (code : ℤ) (said : List (Lent ℕ)) : Ty
       ≡ Ok datagrams
   pub read : AreRead datagrams said
 
+-- the error ENOBUFS (105), as the socket's buffer was full when the dump began, and then the dump, whatever its end says
+pub record IsDelayed (asked : Request) (said : List (Lent ℕ)) : Type 0 where
+  pub refusal : List (Lent ℕ)
+  pub refused : IsRefused asked (negsuc 104) refusal
+  pub code : ℤ
+  pub dump : List (Lent ℕ)
+  pub dumped : IsDumped asked code dump
+  pub are : said ≡ refusal ++ dump
+
+-- an error with this code ends an answer of this kind, whatever its flags
+abbrev pub Ends : Answering → ℤ → Type 0
+Ends a code = (flags : NlmF) → ends_answer a 2 flags code ≡ true
+
 -- the verdict on a dump whose end has this code
 abbrev pub verdict_by : ℤ → Verdict
 verdict_by code = if int_eq code (pos 0) then stands.Complete else stands.Failed code
 
--- the simulator answers by these messages a request that is answered so, and the verdict is that it is complete, or the
--- code by which the kernel refused it or ended its dump
+-- the kernel answers by these messages a request that is answered so, and the verdict is that it is complete, or the code
+-- by which the kernel refused it or ended its dump
 pub data IsSimulated (asked : Request) (said : List (Lent ℕ)) : Answering → Verdict → Type 0 where
   Acknowledged : IsAcknowledged asked said → IsSimulated asked said answered.Acknowledgement stands.Complete
   Replied : IsReplied asked said → IsSimulated asked said answered.Reply stands.Complete
   Dumped : (code : ℤ) → IsDumped asked code said → IsSimulated asked said answered.Dump (verdict_by code)
-  Refused : (a : Answering) (code : ℤ) → IsRefused asked code said → IsSimulated asked said a (stands.Failed code)
+  Refused : (a : Answering) (code : ℤ) → IsRefused asked code said → Ends a code
+      → IsSimulated asked said a (stands.Failed code)
+  Delayed : IsDelayed asked said → IsSimulated asked said answered.Dump (stands.Failed (negsuc 104))
 
 -- ---- the laws
 

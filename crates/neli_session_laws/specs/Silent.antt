@@ -9,9 +9,9 @@ use Rattle.neli_session.specs.declared.request.Verdict.TheVariants as stands
 use Rattle.neli_session.specs.Happenings.{left}
 use Rattle.neli_session.specs.Histories.{Call, Moment, Quiet, last as session_after, read_of}
 use Rattle.neli_session.specs.Mails.{answers_at_once}
-use Rattle.neli_session.specs.Requests.{verdict_of}
+use Rattle.neli_session.specs.Requests.{ends, verdict_of}
 use Rattle.neli_session.specs.Sessions.{at, has_ended}
-use Rattle.neli_session.specs.Verdicts.{IsClean, ends}
+use Rattle.neli_session.specs.Verdicts.{IsClean}
 use Rattle.neli_session.specs.Waiting.{as_items}
 use Rattle.neli_session_laws.specs.Served.{Exchange, IsFine, answering, brought, echoes, goes_out, number, sent_after}
 

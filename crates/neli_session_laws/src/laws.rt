@@ -76,7 +76,6 @@ pub fn no_dump_is_refused()
 /// comes for others in between, notifications and strays too, and whatever is sent, read or closed. Once all was read its
 /// verdict is `Complete`, or `Failed` with the code by which the simulator refused it or ended its dump, and before that
 /// `Pending`; never another. A kernel that refuses a dump with EBUSY while another one runs answers it no otherwise.
-#[tactic(auto, using(crate::proofs::Answered::simulated_answered))]
 pub fn simulated_requests_are_answered()
     ensures { SimulatedRequestsAreAnswered }
 {

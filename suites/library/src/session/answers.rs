@@ -3,7 +3,7 @@
 //! A datagram whose name ends in a number is that recording; the others have port 7, and are made by hand.
 
 use super::script::Script;
-use super::script::Step::{Answer, Came, Quiet, Sent, Stands};
+use super::script::Step::{Answer, Came, Close, Goes, InUse, Queued, Quiet, Sent, Stands};
 use super::script::Told::{End, Message, Waits};
 use neli::consts::socket::NlFamily;
 use neli::session::Verdict;
@@ -43,6 +43,13 @@ const MARKED: &str = "10000000100012000000000007000000";
 
 const FAILED: &str = "14000000030002000000000007000000edffffff";
 
+/// Of Linux 6.18 to a dump of links whose socket's buffer is full: the error -105 (`ENOBUFS`), and then the end.
+const NO_ROOM: &str =
+    "3400000002000000881300006c10000097ffffff2000000012000103881300000000000000000000000000000000\
+    000000000000";
+
+const DONE_AFTER_IT: &str = "1400000003000200881300006c10000000000000";
+
 /// A part and the end in one datagram.
 const PART_AND_DONE: &str =
     "100000001000020000000000070000001400000003000200000000000700000000000000";
@@ -52,7 +59,25 @@ const LINK: &str = "10000000100000000000000007000000";
 
 const ACK: &str = "240000000200000100000000070000000000000014000000120005000000000000000000";
 
-pub const SCRIPTS: [Script; 14] = [
+pub const SCRIPTS: [Script; 15] = [
+    (
+        "a dump goes on after ENOBUFS",
+        4204,
+        &[
+            Sent(5000, NlFamily::Route, 18, 0x301, 16),
+            Queued(5001, NlFamily::Route, 22, 0x301, 16),
+            Came(NO_ROOM),
+            Answer(5000, Message(2, 36)),
+            Answer(5000, Waits),
+            Stands(5000, Some(Verdict::Failed(-105))),
+            Close(5000),
+            Goes(None),
+            InUse(5000, true),
+            Came(DONE_AFTER_IT),
+            InUse(5000, false),
+            Goes(Some(5001)),
+        ],
+    ),
     (
         "a dump without MULTI",
         17225,
