@@ -6,11 +6,6 @@
 /* The number of consecutive faults, without end, that mean a closed socket. */
 #define FAULTS 8
 
-/* The length of a message with so many bytes of payload, with its padding. */
-static size_t message_length(size_t payload) {
-    return (sizeof(struct nlmsghdr) + payload + 3) & ~(size_t)3;
-}
-
 /* A handle is the sequence number of its request and one, since 0 is NELI_MULTICAST. */
 _Static_assert(SIZE_MAX - 1 > UINT32_MAX, "a size_t has room for each number and one, beside NELI_HOST_UNASKED");
 
@@ -49,31 +44,24 @@ static void flush(struct neli_host *host) {
     }
 }
 
-/* Writes a request behind those before it, with a number of its own. */
-static int32_t write_request(struct neli_host *host, const struct neli_host_request *request, uint8_t *out, size_t room,
-                             struct neli_writer *writer, uint32_t *number) {
-    uint16_t flags = request->flags | NLM_F_REQUEST;
-    int32_t code = neli_session_take_number(&host->session, number);
-    if (code == NELI_OK)
-        code = neli_begin_message(out, room, writer, request->type, flags, *number, host->link.port);
-    if (code == NELI_OK) code = neli_put_bytes(out, room, writer, request->body, request->length);
-    return code == NELI_OK ? neli_end_message(out, room, writer) : code;
-}
-
 /* Queues requests as one datagram, each with a number of its own. */
 static int32_t queue(struct neli_host *host, const struct neli_host_request *requests, size_t count, size_t *handles) {
     struct neli_writer writer = {0};
     size_t room = 0;
     for (size_t i = 0; i < count; i++) {
         if (!neli_is_slice(requests[i].body, requests[i].length)) return NELI_NULL;
-        if (message_length(requests[i].length) > UINT32_MAX) return NELI_LENGTH;
-        room += message_length(requests[i].length);
+        if (requests[i].length > UINT32_MAX - NLMSG_HDRLEN - (NLMSG_ALIGNTO - 1)) return NELI_LENGTH;
+        room += NLMSG_SPACE(requests[i].length);
     }
     uint8_t *out = malloc(room);
     int32_t code = out != NULL ? NELI_OK : NELI_MEMORY;
     for (size_t i = 0; i < count && code == NELI_OK; i++) {
+        uint16_t type = requests[i].type, flags = requests[i].flags | NLM_F_REQUEST;
         uint32_t number = 0;
-        code = write_request(host, &requests[i], out, room, &writer, &number);
+        code = neli_session_take_number(&host->session, &number);
+        if (code == NELI_OK) code = neli_begin_message(out, room, &writer, type, flags, number, host->link.port);
+        if (code == NELI_OK) code = neli_put_bytes(out, room, &writer, requests[i].body, requests[i].length);
+        if (code == NELI_OK) code = neli_end_message(out, room, &writer);
         handles[i] = handle_of(number);
     }
     if (code == NELI_OK) code = neli_session_send_all(&host->session, out, writer.end);
@@ -101,8 +89,7 @@ int32_t neli_host_send(struct neli_host *host, uint16_t type, uint16_t flags, co
                        size_t *handle) {
     struct neli_host_request request = {type, flags, body, length};
     size_t sent;
-    if (handle == NULL) return NELI_NULL;
-    int32_t code = neli_host_send_all(host, &request, 1, &sent);
+    int32_t code = neli_host_send_all(host, &request, 1, handle != NULL ? &sent : NULL);
     if (code == NELI_OK) *handle = sent;
     return code;
 }
@@ -113,13 +100,8 @@ void host_drop(struct neli_host *host, enum neli_reader reader) {
     while (neli_session_is_ready(&host->session, reader, 0) == NELI_ITEM) neli_session_pass(&host->session, reader, 0);
 }
 
-static bool is_held(const struct neli_host *host) {
-    return host->place < host->held.length || host->due != 0;
-}
-
 /* Receives what is handed in next. A socket that has nothing but faults is closed. */
 static int32_t receive(struct neli_host *host) {
-    host->place = 0;
     int32_t code = link_receive(&host->link, &host->held);
     if (code != NELI_OK) host->held.length = 0;
     host->faults = code == NELI_LINK ? host->faults + 1 : 0;
@@ -128,26 +110,34 @@ static int32_t receive(struct neli_host *host) {
     return NELI_OK;
 }
 
-/* Hands in what is held. At NELI_MEMORY the rest of it stays. */
-static int32_t hand_in(struct neli_host *host) {
-    const struct neli_received *held = &host->held;
-    const uint8_t *rest = host->link.room + host->place;
-    size_t left = held->length - host->place, taken = 0;
-    int32_t code = host->due != 0
-        ? neli_session_fault(&host->session, host->due)
-        : neli_session_receive(&host->session, rest, left, held->group, held->is_joined, &taken);
-    host->place += taken;
+/* Hands in the next datagram, or a fault of the link; at NELI_MEMORY the rest of it is held. NELI_WAITS if none has
+ * arrived: the link was seen empty. */
+static int32_t take_in(struct neli_host *host) {
+    struct link *link = &host->link;
+    struct neli_received *held = &host->held;
+    size_t taken = 0;
+    int32_t code = held->length > 0 || host->due != 0 ? NELI_OK : receive(host);
+    if (code == NELI_OK && host->due != 0) code = neli_session_fault(&host->session, host->due);
+    else if (code == NELI_OK)
+        code = neli_session_receive(&host->session, link->room, held->length, held->group, held->is_joined, &taken);
     if (code == NELI_OK) host->due = 0;
+    held->length -= taken;
+    if (taken > 0) memmove(link->room, link->room + taken, held->length);
+    if (code == NELI_WAITS && link->is_empty) neli_session_quiet(&host->session);
     if (!host->keeps_unasked) host_drop(host, NELI_READER_UNASKED);
+    if (code != NELI_LINK) flush(host);
     return code;
 }
 
-int32_t host_take_in(struct neli_host *host) {
-    int32_t code = is_held(host) ? NELI_OK : receive(host);
-    if (code == NELI_OK) code = hand_in(host);
-    if (code == NELI_WAITS && host->link.is_empty) neli_session_quiet(&host->session);
-    if (code != NELI_LINK) flush(host);
-    return code;
+int32_t neli_host_take_in(struct neli_host *host) {
+    if (host == NULL) return NELI_NULL;
+    int64_t end = link_end_of_wait(&host->link);
+    int32_t code;
+    do {
+        code = take_in(host);
+        if (code == NELI_OK) code = link_wait(&host->link, end, true);
+    } while (code == NELI_OK);
+    return code == NELI_WAITS ? NELI_OK : code;
 }
 
 /* ---- What is read ---- */
@@ -164,18 +154,16 @@ static int32_t want_open(struct neli_host *host, size_t handle) {
     return handle == host->open || look(host, handle, &lent) != NELI_HANDLE ? NELI_OK : NELI_HANDLE;
 }
 
-/* Takes in more until an item of the handle is there, or the wait has ended. Once the link was seen empty, which may
- * end an answer, it waits for the link. */
+/* Takes in more until the handle has something, or the wait has ended. An empty link may end an answer, so it looks
+ * once more before it waits. */
 static int32_t lend(struct neli_host *host, size_t handle, struct neli_lent *lent) {
-    int32_t code = look(host, handle, lent), taken = NELI_OK;
+    int32_t code = look(host, handle, lent);
     int64_t end = code == NELI_WAITS ? link_end_of_wait(&host->link) : 0;
-    for (bool is_first = true; code == NELI_WAITS; is_first = false) {
-        if (taken == NELI_WAITS) code = link_wait(&host->link, end);
-        else code = is_first ? NELI_OK : link_goes_on(&host->link, end);
-        if (code == NELI_LINK) return code;
-        taken = host_take_in(host);
+    while (code == NELI_WAITS) {
+        int32_t taken = take_in(host);
         if (taken != NELI_OK && taken != NELI_WAITS) return taken;
         code = look(host, handle, lent);
+        if (code == NELI_WAITS && link_wait(&host->link, end, taken == NELI_OK) != NELI_OK) return NELI_LINK;
     }
     if (code == NELI_LINK) host->link.fault = lent->error;
     return code;
@@ -183,18 +171,15 @@ static int32_t lend(struct neli_host *host, size_t handle, struct neli_lent *len
 
 /* Copies an item, with its padding. */
 static int32_t copy(struct neli_host *host, const struct neli_lent *lent, struct neli_message *message) {
-    size_t length = message_length(lent->length);
+    size_t length = NLMSG_SPACE(lent->length);
     struct nlmsghdr header = {(uint32_t)length, lent->message.type, lent->message.flags, lent->message.number,
                               lent->message.port};
-    if (length > host->item_room) {
-        uint8_t *grown = realloc(host->item, length);
-        if (grown == NULL) return NELI_MEMORY;
-        host->item = grown;
-        host->item_room = length;
-    }
-    memset(host->item + length - 4, 0, 4);
-    memcpy(host->item, &header, sizeof header);
-    memcpy(host->item + sizeof header, lent->bytes, lent->length);
+    uint8_t *item = realloc(host->item, length);
+    if (item == NULL) return NELI_MEMORY;
+    memset(item + length - 4, 0, 4);
+    memcpy(item, &header, sizeof header);
+    memcpy(item + sizeof header, lent->bytes, lent->length);
+    host->item = item;
     host->item_length = length;
     *message = lent->message;
     message->length = header.nlmsg_len;
@@ -229,22 +214,21 @@ int32_t neli_host_pass(struct neli_host *host, size_t handle) {
 }
 
 bool neli_host_ready(struct neli_host *host, size_t *handle) {
-    static const size_t others[] = {NELI_MULTICAST, NELI_HOST_UNASKED};
     uint32_t number;
     if (host == NULL || handle == NULL) return false;
-    bool is_found = neli_session_ready(&host->session, &number) == NELI_ITEM;
-    if (is_found) *handle = handle_of(number);
-    for (int i = 0; i < 2 && !is_found; i++) {
-        is_found = neli_session_is_ready(&host->session, reader_of(others[i]), 0) == NELI_ITEM;
-        if (is_found) *handle = others[i];
-    }
-    return is_found;
+    struct neli_session *session = &host->session;
+    if (neli_session_ready(session, &number) == NELI_ITEM) *handle = handle_of(number);
+    else if (neli_session_is_ready(session, NELI_READER_MULTICAST, 0) == NELI_ITEM) *handle = NELI_MULTICAST;
+    else if (neli_session_is_ready(session, NELI_READER_UNASKED, 0) == NELI_ITEM) *handle = NELI_HOST_UNASKED;
+    else return false;
+    return true;
 }
 
 bool neli_host_is_ready(struct neli_host *host, size_t handle) {
     struct neli_lent lent;
     if (host == NULL) return false;
-    return is_held(host) || link_is_stopped(&host->link) || look(host, handle, &lent) != NELI_WAITS;
+    bool is_held = host->held.length > 0 || host->due != 0;
+    return is_held || link_is_stopped(&host->link) || look(host, handle, &lent) != NELI_WAITS;
 }
 
 int32_t neli_host_verdict(struct neli_host *host, size_t handle, struct neli_verdict *verdict) {

@@ -199,35 +199,24 @@ bool link_is_stopped(const struct link *link) {
     return poll(&stop, 1, 0) > 0;
 }
 
-int32_t link_goes_on(struct link *link, int64_t end) {
-    if (link->wait > 0 && is_past(end)) errno = EAGAIN;
-    else if (link_is_stopped(link)) errno = ECANCELED;
-    else return NELI_OK;
-    return failed(link);
-}
-
-/* Waits by the caller's function. */
-static int32_t wait_over(struct link *link, int64_t end) {
-    for (;;) {
-        if (link_goes_on(link, end) != NELI_OK) return NELI_LINK;
-        errno = link->over.wait(link->over.state, left_until(end));
-        if (errno == 0) return NELI_OK;
-        if (errno != EINTR || link->ends_by_signals) return failed(link);
-    }
-}
-
-int32_t link_wait(struct link *link, int64_t end) {
+/* Waits once: 0, or the number in errno.h. */
+static int wait_once(const struct link *link, int left) {
     short events = link->is_full ? POLLIN | POLLOUT : POLLIN;
-    if (link->over.wait != NULL) return wait_over(link, end);
     struct pollfd both[] = {{.fd = link->fd, .events = events}, {.fd = link->stop, .events = POLLIN}};
-    for (;;) {
-        int left = left_until(end), found = poll(both, 2, left);
-        if (found < 0 && (errno != EINTR || link->ends_by_signals)) return failed(link);
-        if (found > 0 && both[1].revents == 0) return NELI_OK;
-        if (found < 0 || (found == 0 && left != 0)) continue;
-        errno = found == 0 ? EAGAIN : ECANCELED;
-        return failed(link);
-    }
+    if (link->over.wait != NULL) return link_is_stopped(link) ? ECANCELED : link->over.wait(link->over.state, left);
+    int found = poll(both, 2, left);
+    if (found < 0) return errno;
+    if (both[1].revents != 0) return ECANCELED;
+    return found > 0 ? 0 : EAGAIN;
+}
+
+int32_t link_wait(struct link *link, int64_t end, bool has_come) {
+    do {
+        if (link->wait > 0 && is_past(end)) errno = EAGAIN;
+        else if (has_come) errno = link_is_stopped(link) ? ECANCELED : 0;
+        else errno = wait_once(link, left_until(end));
+    } while (errno == EINTR && !link->ends_by_signals);
+    return errno != 0 ? failed(link) : NELI_OK;
 }
 
 void link_stop(const struct link *link) {

@@ -43,12 +43,9 @@ int32_t link_receive(struct link *link, struct neli_received *received);
 int64_t link_end_of_wait(const struct link *link);
 
 /* Waits until a datagram may have arrived, or one that could not be sent may be: NELI_OK, or NELI_LINK if the wait has
- * ended. */
-int32_t link_wait(struct link *link, int64_t end);
-
-/* Whether a wait goes on though datagrams come that are not waited for: NELI_OK, or NELI_LINK if it has ended. A wait for
- * no time goes on until none is left. */
-int32_t link_goes_on(struct link *link, int64_t end);
+ * ended. Where one has come that is not waited for, it says at once whether the wait goes on: one for no time goes on
+ * until none is left. */
+int32_t link_wait(struct link *link, int64_t end, bool has_come);
 
 /* Whether all waits were ended. */
 bool link_is_stopped(const struct link *link);

@@ -36,8 +36,6 @@ void neli_host_close(struct neli_host *host) {
     free(host);
 }
 
-/* ---- What can be set and read at any time ---- */
-
 int neli_host_fd(const struct neli_host *host) {
     return host != NULL ? host->link.fd : -1;
 }
@@ -82,23 +80,19 @@ const uint8_t *neli_host_datagram(const struct neli_host *host) {
     return host != NULL ? host->link.room : NULL;
 }
 
-/* ---- Lists ---- */
-
-/* Takes in all that has arrived, until the link was seen empty, and drops what came for groups if told to. */
-static int32_t take_in(struct neli_host *host, bool drops) {
+int32_t neli_host_receive(struct neli_host *host, size_t *length, uint32_t *group) {
+    if (host == NULL || length == NULL || group == NULL) return NELI_NULL;
     int64_t end = link_end_of_wait(&host->link);
+    struct neli_received received;
     int32_t code;
-    do {
-        code = host_take_in(host);
-        if (drops) host_drop(host, NELI_READER_MULTICAST);
-        if (code == NELI_OK) code = link_goes_on(&host->link, end);
-    } while (code == NELI_OK);
-    return code == NELI_WAITS ? NELI_OK : code;
+    while ((code = link_receive(&host->link, &received)) == NELI_WAITS)
+        if (link_wait(&host->link, end, false) != NELI_OK) return NELI_LINK;
+    *length = received.length;
+    *group = received.group;
+    return code;
 }
 
-int32_t neli_host_take_in(struct neli_host *host) {
-    return host != NULL ? take_in(host, false) : NELI_NULL;
-}
+/* ---- Lists ---- */
 
 /* Whether a list with this result may be complete when it is requested again. */
 static bool is_passing(const struct neli_host *host, int32_t code, const struct neli_verdict *verdict) {
@@ -137,10 +131,10 @@ static int32_t take_all(struct neli_host *host, const struct neli_dump *dumps, s
         if (dumps[i].take == NULL || !neli_is_slice(dumps[i].body, dumps[i].length)) return NELI_NULL;
     for (int times = 1;; times++) {
         size_t taken = 0;
-        int32_t code = drops ? take_in(host, true) : NELI_OK;
-        if (code != NELI_OK) return code;
+        int32_t code = drops ? neli_host_take_in(host) : NELI_OK;
+        if (drops) host_drop(host, NELI_READER_MULTICAST);
         while (taken < count && code == NELI_OK) code = take_dump(host, &dumps[taken++], last, &verdict);
-        if (code == NELI_OK || times >= dumps[taken - 1].times || !is_passing(host, code, &verdict)) return code;
+        if (taken == 0 || times >= dumps[taken - 1].times || !is_passing(host, code, &verdict)) return code;
     }
 }
 
@@ -172,32 +166,25 @@ const char *neli_host_text(const struct neli_host *host, const struct neli_attri
     return neli_text_length(payload, attribute->payload_length, &length) == NELI_OK ? (const char *)payload : NULL;
 }
 
-/* A number of an extended acknowledgement, if it has one. */
-static bool has_number(const struct neli_host *host, const struct neli_answer *answer, uint16_t which,
-                       uint32_t *number) {
+/* Appends the kernel's reasons for its refusal, as much of them as there is room for. */
+static void append_reasons(const struct neli_host *host, const struct neli_walk *list, char *text, size_t room) {
+    static const char *const words[] = {
+        [NELI_ANSWER_TEXT] = ": %s",
+        [NELI_ANSWER_OFFSET] = ", at byte %u of the request",
+        [NELI_ANSWER_MISSING] = ", attribute %u is missing",
+        [NELI_ANSWER_MISSING_NEST] = " in the nest at byte %u of the request",
+    };
     struct neli_attribute found;
-    return neli_host_find(host, &answer->attributes, which, &found) &&
-           neli_get_u32(host->item + found.payload, found.payload_length, 0, number) == NELI_OK;
-}
-
-/* Appends words with a number to a text, as much of them as there is room for. */
-static void append(char *text, size_t room, const char *words, uint32_t number) {
-    size_t used = strlen(text);
-    snprintf(text + used, room - used, words, number);
-}
-
-/* The kernel's reason for its refusal, appended to the text. */
-static void append_words(const struct neli_host *host, const struct neli_answer *answer, char *text, size_t room) {
-    struct neli_attribute found;
-    size_t used = strlen(text);
-    uint32_t number;
-    if (neli_host_find(host, &answer->attributes, NELI_ANSWER_TEXT, &found) && neli_host_text(host, &found) != NULL)
-        snprintf(text + used, room - used, ": %s", neli_host_text(host, &found));
-    if (has_number(host, answer, NELI_ANSWER_OFFSET, &number)) append(text, room, ", at byte %u of the request", number);
-    if (!has_number(host, answer, NELI_ANSWER_MISSING, &number)) return;
-    append(text, room, ", attribute %u is missing", number);
-    if (has_number(host, answer, NELI_ANSWER_MISSING_NEST, &number))
-        append(text, room, " in the nest at byte %u of the request", number);
+    for (uint16_t which = NELI_ANSWER_TEXT; which <= NELI_ANSWER_MISSING_NEST; which++) {
+        size_t used = strlen(text);
+        uint32_t number;
+        if (words[which] == NULL || !neli_host_find(host, list, which, &found)) continue;
+        const uint8_t *payload = host->item + found.payload;
+        if (which == NELI_ANSWER_TEXT && neli_host_text(host, &found) != NULL)
+            snprintf(text + used, room - used, words[which], payload);
+        if (which != NELI_ANSWER_TEXT && neli_get_u32(payload, found.payload_length, 0, &number) == NELI_OK)
+            snprintf(text + used, room - used, words[which], number);
+    }
 }
 
 void neli_host_explain(const struct neli_host *host, int32_t code, const struct neli_message *message, char *text,
@@ -208,24 +195,10 @@ void neli_host_explain(const struct neli_host *host, int32_t code, const struct 
     if (is_answer && neli_get_answer(host->item, host->item_length, message, &answer) == NELI_OK) {
         if (answer.code > -INT_MAX && answer.code < 0) snprintf(text, room, "%s", strerror(-answer.code));
         else snprintf(text, room, "error %d", answer.code);
-        append_words(host, &answer, text, room);
+        append_reasons(host, &answer.attributes, text, room);
     } else if (host != NULL && code == NELI_LINK) {
         snprintf(text, room, "%s", strerror(host->link.fault));
     } else if (neli_error_text(code, text, room) != NELI_OK) {
         snprintf(text, room, "code %d", code);
     }
-}
-
-/* ---- Datagrams ---- */
-
-int32_t neli_host_receive(struct neli_host *host, size_t *length, uint32_t *group) {
-    if (host == NULL || length == NULL || group == NULL) return NELI_NULL;
-    int64_t end = link_end_of_wait(&host->link);
-    struct neli_received received;
-    int32_t code;
-    while ((code = link_receive(&host->link, &received)) == NELI_WAITS)
-        if (link_wait(&host->link, end) != NELI_OK) return NELI_LINK;
-    *length = received.length;
-    *group = received.group;
-    return code;
 }
