@@ -330,6 +330,19 @@ carries! {
     RouterError::Ser(SerError),
 }
 
+/// What a session refuses.
+impl From<Refusal> for RouterError {
+    fn from(refusal: Refusal) -> Self {
+        match refusal.0 {
+            ffi::MEMORY => RouterError::Memory,
+            ffi::HANDLE => RouterError::ClosedChannel,
+            ffi::IN_USE => RouterError::SeqInUse,
+            ffi::KIND => RouterError::new("two dumps in one datagram"),
+            _ => RouterError::De(refusal.into()),
+        }
+    }
+}
+
 /// In words.
 impl From<BuildError> for RouterError {
     fn from(error: BuildError) -> Self {

@@ -391,23 +391,32 @@ impl Session {
         unsafe { neli_c_session_pass(self.raw(), reader, number) };
     }
 
-    /// The code of the verdict on the answer to a request, and what stands beside it.
-    pub fn verdict(&mut self, number: u32) -> (i32, Verdict) {
+    /// Goes on past all that a reader has.
+    pub fn pass_all(&mut self, reader: Reader) {
+        while self.is_ready(reader) {
+            self.pass(reader);
+        }
+    }
+
+    /// The code of the verdict on the answer to a request, and what stands beside it; on what others read there is none.
+    pub fn verdict(&mut self, reader: Reader) -> (i32, Verdict) {
         let mut verdict = Verdict::default();
+        let Reader::Request(number) = reader else { return (WAITS, verdict) };
         // SAFETY: the session is open, and borrowed exclusively, as `verdict` is.
         (unsafe { neli_c_session_verdict(self.raw(), number, &mut verdict) }, verdict)
     }
 
-    /// Closes a request.
-    pub fn close(&mut self, number: u32) {
+    /// Nobody reads here any more; what answers no request is only passed.
+    pub fn close(&mut self, reader: Reader) {
         // SAFETY: the session is open, and borrowed exclusively.
-        unsafe { neli_c_session_close(self.raw(), number) };
-    }
-
-    /// Closes multicast.
-    pub fn close_multicast(&mut self) {
-        // SAFETY: the session is open, and borrowed exclusively.
-        unsafe { neli_c_session_close_multicast(self.raw()) };
+        match reader {
+            Reader::Request(number) => unsafe { neli_c_session_close(self.raw(), number) },
+            Reader::Multicast => unsafe { neli_c_session_close_multicast(self.raw()) },
+            Reader::Unasked => {
+                self.pass_all(reader);
+                END
+            }
+        };
     }
 }
 

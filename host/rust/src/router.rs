@@ -4,6 +4,5 @@ pub mod lending;
 mod names;
 mod notice;
 mod shared;
-mod state;
 pub mod synchronous;
 mod verdict;

@@ -16,8 +16,8 @@ use neli::rtnl::{Ifaddrmsg, IfaddrmsgBuilder, Ifinfomsg, IfinfomsgBuilder, Rtatt
 use neli::types::Buffer;
 use std::io::{self, ErrorKind};
 use std::net::Ipv4Addr;
-use std::sync::Arc;
 use std::sync::atomic::{AtomicBool, AtomicI32, Ordering};
+use std::sync::{Arc, Mutex};
 use std::time::Duration;
 
 type Outcome = Result<(), Box<dyn std::error::Error>>;
@@ -34,16 +34,15 @@ fn routing(file: &[u8]) -> Result<Recording, PcapError> {
     Recording::from_pcap(file, NlFamily::Route)
 }
 
+/// The body of a request for all IPv4 addresses.
+fn all_addresses() -> Result<NlPayload<Rtm, Ifaddrmsg>, RouterError> {
+    let all = IfaddrmsgBuilder::default().ifa_family(RtAddrFamily::Inet).ifa_scope(RtScope::Universe);
+    Ok(NlPayload::Payload(all.ifa_prefixlen(0).ifa_index(0).build()?))
+}
+
 /// The client: it lists IPv4 addresses.
 fn addresses(router: &NlRouter<impl Link + 'static>) -> Result<(Vec<String>, Verdict), RouterError> {
-    let all = IfaddrmsgBuilder::default()
-        .ifa_family(RtAddrFamily::Inet)
-        .ifa_prefixlen(0)
-        .ifa_scope(RtScope::Universe)
-        .ifa_index(0)
-        .build()
-        .map_err(|error| RouterError::new(error.to_string()))?;
-    let dump = router.dump::<_, _, Rtm, Ifaddrmsg>(Rtm::Getaddr, NlmF::empty(), NlPayload::Payload(all), 1)?;
+    let dump = router.dump::<_, _, Rtm, Ifaddrmsg>(Rtm::Getaddr, NlmF::empty(), all_addresses()?, 1)?;
     let mut found = Vec::new();
     for body in dump.messages.iter().filter_map(|it| it.get_payload()) {
         let local: [u8; 4] = body.rtattrs().get_attr_handle().get_attr_payload_as(Ifa::Local)?;
@@ -239,6 +238,76 @@ fn the_other_byte_order_and_nanoseconds_are_read() -> Outcome {
         file[place..place + 4].reverse();
     }
     assert_eq!(routing(&file)?.frames(), &routing(ADDRESSES)?.frames()[..1]);
+    Ok(())
+}
+
+#[test]
+fn what_a_recording_has_is_lent() -> Outcome {
+    let (mut router, _multicast) = LendingRouter::over(routing(ADDRESSES)?)?;
+    let addresses = router.send(Rtm::Getaddr, NlmF::DUMP, all_addresses()?)?;
+    let mut labels = String::new();
+    while let Some(message) = router.lend_next(&addresses)? {
+        if message.nl_type() == u16::from(Rtm::Newaddr) {
+            // struct ifaddrmsg has 8 bytes.
+            if let Some(label) = message.get_attrs(8)?.get_attribute(Ifa::Label)? {
+                labels += label.get_str()?;
+                labels.push(' ');
+            }
+        }
+        router.pass(&addresses)?;
+    }
+    assert_eq!(labels, "lo veth0 veth0:x veth2 veth2 br0 ");
+    assert_eq!(router.verdict(&addresses), Verdict::Complete);
+    Ok(())
+}
+
+/// Answers the request with the number 0 by a message with 17 bytes of payload, of which so many bytes come.
+#[derive(Debug)]
+struct Cut(Mutex<Option<usize>>);
+
+impl Link for Cut {
+    fn port(&self) -> u32 {
+        3
+    }
+
+    fn send(&self, _datagram: &[u8]) -> Result<(), SocketError> {
+        Ok(())
+    }
+
+    fn receive(&self, room: &mut Vec<u8>) -> Result<Option<Arrived>, SocketError> {
+        let head = [33u32, 16, 0, self.port()].map(u32::to_ne_bytes).concat();
+        let came = self.0.lock().map_err(|_| SocketError::Ended)?.take();
+        Ok(came.map(|it| Arrived::into_room(room, &[&head[..], &[9; 24]].concat()[..it], 0)))
+    }
+}
+
+#[test]
+fn a_last_padding_is_completed() -> Outcome {
+    let rows =
+        [(31, 0, true), (32, 0, true), (33, 1, false), (34, 1, false), (35, 1, false), (36, 1, false), (37, 1, true)];
+    for (came, count, is_cut) in rows {
+        let (router, _multicast) = NlRouter::over(Cut(Mutex::new(Some(came))))?;
+        let mut replies = router.send::<_, Buffer, u16, Buffer>(Rtm::Getlink, NlmF::ACK, NlPayload::Empty)?;
+        let (found, errors): (Vec<_>, Vec<_>) = replies.by_ref().partition(Result::is_ok);
+        assert_eq!((found.len(), errors.len()), (count, usize::from(is_cut)), "{came} bytes");
+        assert_eq!(replies.verdict(), Verdict::Lost(if is_cut { Loss::Datagram } else { Loss::Unended }));
+        for reply in found {
+            assert_eq!(reply?.get_payload().map(|it| it.as_ref().to_vec()), Some(vec![9; 17]), "{came} bytes");
+        }
+    }
+    Ok(())
+}
+
+#[test]
+fn a_list_is_requested_again_after_a_loss() -> Outcome {
+    for (times, verdict) in [(1, Verdict::Lost(Loss::Link)), (2, Verdict::Complete)] {
+        let whole = routing(ADDRESSES)?;
+        let mut recording = Recording::new(NlFamily::Route).sent(whole.frames()[0].bytes.clone()).fault(105);
+        recording.extend(whole.frames().iter().cloned());
+        let (router, _multicast) = NlRouter::over(recording)?;
+        let list = router.dump::<_, _, u16, Buffer>(Rtm::Getaddr, NlmF::empty(), all_addresses()?, times)?;
+        assert_eq!(list.verdict, verdict);
+    }
     Ok(())
 }
 

@@ -8,6 +8,7 @@ use neli::nl::NlPayload;
 use neli::router::synchronous::{Lists, Loss, Missed, NlRouter, NlRouterReceiverHandle, Notice, Verdict};
 use neli::simulator::{Datagram, Kernel, Request, notification, requests};
 use neli::types::{Buffer, GenlBuffer};
+use std::sync::atomic::{AtomicUsize, Ordering};
 use std::sync::{Arc, Mutex};
 
 /// RTM_GETLINK (18) with REQUEST, ACK and DUMP, the number 7, and four bytes.
@@ -192,4 +193,46 @@ fn a_kernel_serves_each_request_of_a_datagram() {
     assert_eq!(kernel.receive().map(|it| it.bytes.len()), Some(36));
     assert_eq!(kernel.receive(), Some(Datagram { group: 1, bytes: vec![1, 2] }));
     assert!(matches!(kernel.send(&DUMP[..15]), Err(SocketError::De(DeError::Refused(Refusal::SHORT)))));
+}
+
+/// What a router makes of a list: its verdict, and how often it was requested, at most twice.
+fn twice(answer: impl FnMut(&Request<'_>) -> Result<Vec<Vec<u8>>, SerError> + Send + 'static) -> (Verdict, usize) {
+    let (count, mut answer) = (Arc::new(AtomicUsize::new(0)), answer);
+    let counted = Arc::clone(&count);
+    let kernel = Kernel::new(7, move |request: &Request<'_>| {
+        counted.fetch_add(1, Ordering::Relaxed);
+        answer(request)
+    });
+    let (router, _multicast) = NlRouter::over(kernel).expect("a router");
+    let all = NlPayload::<Rtm, Buffer>::Empty;
+    let list = router.dump::<_, _, Rtm, [u8; 4]>(Rtm::Getlink, NlmF::empty(), all, 2).expect("a list");
+    (list.verdict, count.load(Ordering::Relaxed))
+}
+
+/// The answer to a dump: messages with these flags and bodies.
+fn list(request: &Request<'_>, messages: &[(NlmF, &[u8])]) -> Result<Vec<Vec<u8>>, SerError> {
+    let mut dump = request.dump(8192)?;
+    for (flags, body) in messages {
+        dump.push(Rtm::Newlink, *flags, &Buffer::from(*body))?;
+    }
+    dump.finish(NlmF::empty(), 0, &())
+}
+
+#[test]
+fn a_dump_is_repeated_where_that_may_help() {
+    let none = NlmF::empty();
+    assert_eq!(twice(move |it| list(it, &[(none, &[1; 4])])), (Verdict::Complete, 1));
+    assert_eq!(twice(|it| list(it, &[(NlmF::DUMP_INTR, &[1; 4])])), (Verdict::Interrupted, 2));
+    assert_eq!(twice(move |it| list(it, &[(none, &[1; 8])])), (Verdict::Lost(Loss::Unreadable), 1));
+    // EBUSY and ENOBUFS of errno.h, and ENODEV.
+    for (code, count) in [(-16, 2), (-105, 2), (-19, 1)] {
+        assert_eq!(twice(move |it| Ok(vec![it.capped_error(code, &())?])), (Verdict::Failed(code), count));
+    }
+}
+
+#[test]
+fn the_first_message_that_decides_a_verdict_counts() {
+    let (marked, none) = (NlmF::DUMP_INTR, NlmF::empty());
+    assert_eq!(twice(move |it| list(it, &[(marked, &[1; 4]), (none, &[1; 8])])), (Verdict::Interrupted, 2));
+    assert_eq!(twice(move |it| list(it, &[(none, &[1; 8]), (marked, &[1; 4])])), (Verdict::Lost(Loss::Unreadable), 1));
 }

@@ -1,178 +1,344 @@
-//! The state that a router and its handles share, and their waits.
+//! What a router and its handles share: the library's session, which knows who gets what, and what it lacks, the link.
+//!
+//! There is one lock, which nobody holds while it sends or waits. Of the threads that wait one watches the link.
 
-use super::state::{Request, State};
-use crate::err::{RouterError, SocketError};
-use crate::ffi::Reader;
-use crate::link::Link;
+use crate::consts::nl::NlmF;
+use crate::consts::socket::NlFamily;
+use crate::err::{RouterError, SocketError, done, refused};
+use crate::ffi::{self, Reader};
+use crate::lent::LentMessage;
+use crate::link::{Arrived, Link};
+use crate::nl::message_with;
+use crate::rtnl::default_body;
 use crate::socket::synchronous::Wait;
-use std::sync::{Arc, Condvar, Mutex, MutexGuard, PoisonError};
-use std::task::{Poll, Waker};
+use std::collections::HashMap;
+use std::io::{Error, ErrorKind};
+use std::ops::Range;
+use std::sync::{Mutex, MutexGuard, PoisonError};
+use std::task::{Poll, Waker, ready};
+use std::thread::{self, Thread};
+use std::time::Duration;
+
+/// The number of datagrams after which a wait looks at its time, and a task lets others run.
+const AT_ONCE: usize = 64;
+
+/// The number of consecutive faults after which the next one means that the link is gone.
+const FAULTS: u32 = 8;
+
+pub(super) type Result<T, E = RouterError> = std::result::Result<T, E>;
+
+/// A request as it is sent: its type, its flags and its body.
+pub(super) type Request = (u16, NlmF, Vec<u8>);
+
+/// What is read: the header of a message, and its payload; none at the end.
+pub(super) type Read = Result<Option<(ffi::Message, Vec<u8>)>>;
+
+/// What takes something for a reader.
+pub(super) type Take<T> = fn(&mut State, Reader) -> Poll<Result<T>>;
+
+/// A datagram in the room, its group, and whether the link is in that; or the number of a fault.
+type Held = Result<(Range<usize>, u32, bool), i32>;
 
 type Locked<'s> = MutexGuard<'s, State>;
 
-/// The number of datagrams after which a task lets others run.
-const AT_ONCE: usize = 64;
-
-/// One of the waiting threads watches the link. A thread in a call receives datagrams under the lock, which keeps the
-/// link's order, and wakes their readers. One thread at a time sends, without the lock.
 #[derive(Debug)]
-pub(super) struct Shared {
-    link: Arc<dyn Link>,
+pub(super) struct Shared<L: ?Sized = dyn Link> {
     state: Mutex<State>,
+    pub(super) link: L,
 }
 
-impl Shared {
-    pub(super) fn over(link: Arc<dyn Link>) -> Result<Self, RouterError> {
-        let state = Mutex::new(State::new(Arc::clone(&link))?);
-        Ok(Shared { link, state })
-    }
+#[derive(Debug)]
+pub(super) struct State {
+    pub(super) session: ffi::Session,
+    /// The number of the next request.
+    pub(super) number: u32,
+    pub(super) keeps_unasked: bool,
+    is_sending: bool,
+    room: Vec<u8>,
+    /// What was received last, or its rest, while the library has no memory for it.
+    held: Option<Held>,
+    faults: u32,
+    /// The errors of the link that have no number of the system.
+    others: Vec<SocketError>,
+    waiting: HashMap<Reader, Waiter>,
+}
 
-    pub(super) fn state(&self) -> Locked<'_> {
-        self.state.lock().unwrap_or_else(PoisonError::into_inner)
+/// Who waits for a reader: the thread that watches the link, another one, or a task.
+#[derive(Debug)]
+enum Waiter {
+    AtLink,
+    Thread(Thread),
+    Task(Waker),
+}
+
+impl<L: Link> Shared<L> {
+    pub(super) fn over(link: L) -> Result<Self> {
+        let state = Mutex::new(State {
+            session: ffi::Session::new(link.family().into(), link.port()).map_err(|_| RouterError::Memory)?,
+            number: 0,
+            keeps_unasked: false,
+            is_sending: false,
+            room: Vec::new(),
+            held: None,
+            faults: 0,
+            others: Vec::new(),
+            waiting: HashMap::new(),
+        });
+        Ok(Shared { state, link })
     }
 
     /// The state of one owner.
     pub(super) fn state_mut(&mut self) -> &mut State {
         self.state.get_mut().unwrap_or_else(PoisonError::into_inner)
     }
+}
+
+impl<L: Link + ?Sized> Shared<L> {
+    pub(super) fn state(&self) -> Locked<'_> {
+        self.state.lock().unwrap_or_else(PoisonError::into_inner)
+    }
 
     /// Sends requests as one datagram, and returns the reader of each. If one is refused, none is sent.
-    pub(super) fn send(&self, requests: &[Request]) -> Result<Vec<Reader>, RouterError> {
-        if requests.is_empty() {
-            return Ok(Vec::new());
+    pub(super) fn send(&self, requests: &[Request]) -> Result<Vec<Reader>> {
+        let (mut state, mut datagram, mut readers) = (self.state(), Vec::new(), Vec::new());
+        let (port, is_routing) = (self.link.port(), self.link.family() == NlFamily::Route);
+        let (first, mut number) = (state.number, state.number);
+        for (kind, flags, body) in requests {
+            let body = if is_routing && body.is_empty() { default_body(*kind) } else { body };
+            let flags = (*flags | NlmF::REQUEST).bits();
+            let head = ffi::Message { kind: *kind, flags, number, port, ..ffi::Message::default() };
+            datagram.extend(message_with(&head, body)?);
+            readers.push(Reader::Request(number));
+            number = number.wrapping_add(1);
         }
-        let mut state = self.state();
-        let first = state.number;
-        let readers = state.queue(requests)?;
-        if let Err(error) = self.flush(state, Some(first)) {
-            readers.iter().for_each(|it| self.state().close(*it));
-            return Err(error.into());
+        if !readers.is_empty() {
+            done(state.session.send_all(&datagram))?;
+            state.number = number;
+            if let Err(error) = self.flush(state, Some(first)) {
+                readers.iter().for_each(|it| self.state().close(*it));
+                return Err(error.into());
+            }
         }
         Ok(readers)
     }
 
-    /// Sends what may go out, and returns whether that was anything; others may have changed the state then. It is
-    /// refused if the link refuses the caller's own datagram, which begins with this request.
+    /// Sends what may go out, and returns whether that was anything. Refused if the link refuses the caller's own
+    /// datagram, which begins with this number.
     fn flush<'s>(&'s self, mut state: Locked<'s>, own: Option<u32>) -> Result<(Locked<'s>, bool), SocketError> {
-        let (mut has_sent, mut flushed) = (false, Ok(()));
-        while let Some(datagram) = state.begin_send() {
+        let (mut has_sent, mut refusal) = (false, None);
+        while !state.is_sending {
+            let Some(datagram) = state.session.outgoing().map(<[u8]>::to_vec) else { break };
+            state.is_sending = true;
             drop(state);
             let sent = self.link.send(&datagram);
             state = self.state();
+            state.is_sending = false;
+            let is_own = own.is_some_and(|it| datagram[8..12] == it.to_ne_bytes());
+            match sent {
+                Err(SocketError::Io(error)) if error.kind() == ErrorKind::WouldBlock => break,
+                Ok(()) => state.session.sent(),
+                Err(error) => {
+                    refusal = refusal.or(is_own.then(|| error.again()));
+                    let number = state.number_of(error);
+                    state.session.not_sent(number);
+                }
+            }
             has_sent = true;
-            let ended = state.end_send(sent);
-            if own.is_some_and(|it| datagram[8..12] == it.to_ne_bytes()) {
-                flushed = ended;
-            } else {
+            if !is_own {
                 // Who waits for its answer saw the link empty before: it learns so whether nothing comes.
-                state.wake_watchers();
+                self.wake_all(&state);
             }
         }
-        flushed.map(|()| (state, has_sent))
+        refusal.map_or(Ok((state, has_sent)), Err)
     }
 
-    /// Receives once, and sends what may go out then: returns whether it did anything. If not, the lock was held.
-    fn turn<'s>(&'s self, mut state: Locked<'s>) -> Result<(Locked<'s>, bool), RouterError> {
-        let has_come = state.receive()?;
-        let (state, has_sent) = self.flush(state, None)?;
-        Ok((state, has_come || has_sent))
+    /// Takes in what is held, or the next datagram or fault, and wakes who waits for it; false if none has arrived.
+    fn take_in(&self, state: &mut State) -> Result<bool> {
+        if state.held.is_none() {
+            state.held = self.arrived(state)?;
+        }
+        match &mut state.held {
+            Some(Err(number)) => done(state.session.fault(*number))?,
+            Some(Ok((rest, group, is_joined))) => {
+                let (code, taken) = state.session.receive(&state.room[rest.clone()], *group, *is_joined);
+                rest.start += taken;
+                done(code)?;
+            }
+            None if self.link.answers_later() => {}
+            None => state.session.quiet(),
+        }
+        if !state.keeps_unasked {
+            state.session.pass_all(Reader::Unasked);
+        }
+        for (reader, waiter) in &state.waiting {
+            if state.session.is_ready(*reader) {
+                self.wake(waiter);
+            }
+        }
+        Ok(state.held.take().is_some())
+    }
+
+    /// The next datagram or fault; none if neither has arrived. A link that has nothing but faults is gone: the last of
+    /// them is a refusal.
+    fn arrived(&self, state: &mut State) -> Result<Option<Held>> {
+        let arrived = self.link.receive(&mut state.room);
+        let is_fault = arrived.as_ref().is_err_and(SocketError::is_fault);
+        state.faults = if is_fault { state.faults.saturating_add(1) } else { 0 };
+        let Arrived { length, group } = match arrived {
+            Err(error) if is_fault && state.faults <= FAULTS => return Ok(Some(Err(state.number_of(error)))),
+            Ok(Some(datagram)) => datagram,
+            arrived => return Ok(arrived.map(|_| None)?),
+        };
+        let end = completed(&mut state.room, length);
+        // The kernel sends the notification of an own change in a group's name also where that is not joined.
+        let is_own = group != 0 && ffi::messages(&state.room[..end]).any(|(_, it)| it.port == self.link.port());
+        let is_joined = is_own && self.link.memberships().is_ok_and(|it| it.is_set(group as usize));
+        Ok(Some(Ok((0..end, group, is_joined))))
+    }
+
+    /// Takes in what has arrived, and sends what may go out then, until this is ready or nothing is left. Returns whether
+    /// more may be there too.
+    fn advance<T>(&self, mut take: impl FnMut(&mut State) -> Poll<T>) -> Result<(Locked<'_>, Poll<T>, bool)> {
+        let (mut state, mut has_more) = (self.state(), true);
+        for _ in 0..AT_ONCE {
+            let taken = take(&mut state);
+            if taken.is_ready() || !has_more {
+                return Ok((state, taken, has_more));
+            }
+            let has_come = self.take_in(&mut state)?;
+            (state, has_more) = self.flush(state, None)?;
+            has_more |= has_come;
+        }
+        Ok((state, Poll::Pending, true))
     }
 
     /// Takes in all that has arrived, and does this to the state after each.
-    pub(super) fn receive_all(&self, each: impl Fn(&mut State)) -> Result<(), RouterError> {
+    pub(super) fn receive(&self, each: impl Fn(&mut State)) -> Result<()> {
         let wait = Wait::begin(self.link.limit());
-        let (mut state, mut goes_on) = self.turn(self.state())?;
-        each(&mut state);
-        while goes_on {
-            state.want_link()?;
+        while self.advance(|state| (each(state), Poll::<()>::Pending).1)?.2 {
             wait.goes_on()?;
-            (state, goes_on) = self.turn(state)?;
-            each(&mut state);
         }
         Ok(())
     }
 
-    /// What `take` takes of a reader's next item, or of its end. It waits until one arrives.
-    pub(super) fn next<T>(
-        &self,
-        reader: Reader,
-        take: impl Fn(&mut State, Reader) -> Option<Result<T, RouterError>>,
-    ) -> Result<T, RouterError> {
-        if let Some(next) = take(&mut self.state(), reader) {
+    /// What `take` takes for a reader; it waits until that is ready.
+    pub(super) fn next<T>(&self, reader: Reader, take: Take<T>) -> Result<T> {
+        if let Poll::Ready(next) = take(&mut self.state(), reader) {
             return next;
         }
-        let next = self.wait_for(reader, take);
-        self.state().pass_on_watch();
+        let wait = Wait::begin(self.link.limit());
+        let wait_for = || loop {
+            match self.advance(|state| take(state, reader))? {
+                (_, Poll::Ready(next), _) => return next,
+                (_, Poll::Pending, true) => wait.goes_on()?,
+                (state, Poll::Pending, false) => self.wait(state, reader, wait.left()?)?,
+            }
+        };
+        let next = wait_for();
+        let state = self.state();
+        // Another thread watches the link from now on.
+        let other = state.waiting.values().find(|it| matches!(it, Waiter::Thread(_)));
+        other.filter(|_| !state.is_watched()).into_iter().for_each(|it| self.wake(it));
         next
     }
 
-    fn wait_for<T>(
-        &self,
-        reader: Reader,
-        take: impl Fn(&mut State, Reader) -> Option<Result<T, RouterError>>,
-    ) -> Result<T, RouterError> {
-        let wait = Wait::begin(self.link.limit());
-        let (mut state, mut goes_on) = self.turn(self.state())?;
-        loop {
-            if let Some(next) = take(&mut state, reader) {
-                return next;
-            }
-            (state, goes_on) = if goes_on {
-                state.want_link()?;
-                wait.goes_on()?;
-                self.turn(state)?
-            } else {
-                (self.wait(state, reader, &wait)?, true)
-            };
+    /// Waits until something may have come for a reader, for so long at most.
+    fn wait(&self, mut state: Locked<'_>, reader: Reader, left: Option<Duration>) -> Result<(), SocketError> {
+        let is_watched = state.is_watched();
+        let waiter = if is_watched { Waiter::Thread(thread::current()) } else { Waiter::AtLink };
+        state.waiting.insert(reader, waiter);
+        drop(state);
+        if is_watched {
+            thread::park_timeout(left.unwrap_or(Duration::MAX));
         }
+        let waited = if is_watched { Ok(()) } else { self.link.wait(left) };
+        self.state().waiting.remove(&reader);
+        waited
     }
 
-    /// The same for a task: it waits for nothing, and where nothing is there has the task woken once something may be.
-    pub(super) fn poll<T>(
-        &self,
-        reader: Reader,
-        task: &Waker,
-        take: impl Fn(&mut State, Reader) -> Option<Result<T, RouterError>>,
-    ) -> Poll<Result<T, RouterError>> {
-        let (mut state, mut goes_on) = (self.state(), true);
-        for count in 0..AT_ONCE {
-            if let Some(next) = take(&mut state, reader) {
-                state.tasks.remove(&reader);
-                return Poll::Ready(next);
-            }
-            if !goes_on {
-                state.tasks.insert(reader, task.clone());
-                return Poll::Pending;
-            }
-            let has_link = if count == 0 { Ok(()) } else { state.want_link() };
-            (state, goes_on) = match has_link.and_then(|()| self.turn(state)) {
-                Ok(turned) => turned,
-                Err(error) => return Poll::Ready(Err(error)),
-            };
+    /// What a reader reads; it does not wait, but where nothing is there has the task woken once something may be.
+    pub(super) fn poll(&self, reader: Reader, task: &Waker) -> Poll<Read> {
+        let (mut state, read, has_more) = self.advance(|state| state.read(reader))?;
+        if read.is_ready() {
+            state.waiting.remove(&reader);
+        } else if has_more {
+            task.wake_by_ref();
+        } else {
+            state.waiting.insert(reader, Waiter::Task(task.clone()));
         }
-        task.wake_by_ref();
-        Poll::Pending
+        read
     }
 
-    /// Waits until something has arrived for a reader, or at the link; refused if the wait has ended.
-    fn wait<'s>(&'s self, mut state: Locked<'s>, reader: Reader, wait: &Wait) -> Result<Locked<'s>, RouterError> {
-        let left = wait.left()?;
-        if state.watcher.is_none() {
-            state.watcher = Some(reader);
-            drop(state);
-            let waited = self.link.wait(left);
-            state = self.state();
-            state.watcher = None;
-            waited?;
-            return Ok(state);
+    /// Has all that wait look once more.
+    pub(super) fn wake_all(&self, state: &State) {
+        state.waiting.values().for_each(|it| self.wake(it));
+    }
+
+    fn wake(&self, waiter: &Waiter) {
+        match waiter {
+            Waiter::AtLink => self.link.wake(),
+            Waiter::Thread(thread) => thread.unpark(),
+            Waiter::Task(task) => task.wake_by_ref(),
         }
-        let bell = Arc::new(Condvar::new());
-        state.bells.insert(reader, Arc::clone(&bell));
-        state = match left {
-            Some(left) => bell.wait_timeout(state, left).unwrap_or_else(PoisonError::into_inner).0,
-            None => bell.wait(state).unwrap_or_else(PoisonError::into_inner),
+    }
+}
+
+impl State {
+    fn is_watched(&self) -> bool {
+        self.waiting.values().any(|it| matches!(it, Waiter::AtLink))
+    }
+
+    /// Whether a reader has a next item, which the session lends and which stays, or its end has come; pending if it
+    /// waits. What is in an item's place is passed: a loss, or the kernel's refusal of a request.
+    pub(super) fn lend(&mut self, reader: Reader) -> Poll<Result<bool>> {
+        let error = match self.session.next(reader) {
+            (ffi::WAITS, _) => return Poll::Pending,
+            (code @ (ffi::ITEM | ffi::END), _) => return Poll::Ready(Ok(code == ffi::ITEM)),
+            (ffi::KERNEL_ERROR, _) => match self.session.lent() {
+                Some((head, payload)) => LentMessage::new(head, payload).to_refusal(),
+                None => RouterError::ClosedChannel,
+            },
+            (ffi::LINK, number) => match self.others.get(!number as usize) {
+                Some(error) => error.again().into(),
+                None => Error::from_raw_os_error(number).into(),
+            },
+            (code, _) => refused(code).into(),
         };
-        state.bells.remove(&reader);
-        Ok(state)
+        self.session.pass(reader);
+        Poll::Ready(Err(error))
     }
+
+    /// Reads the next item, or the end; pending if it waits.
+    pub(super) fn read(&mut self, reader: Reader) -> Poll<Read> {
+        let has_item = ready!(self.lend(reader))?;
+        let owned = self.session.lent().map(|(head, payload)| (*head, payload.to_vec()));
+        if has_item {
+            self.session.pass(reader);
+        }
+        Poll::Ready(Ok(owned))
+    }
+
+    /// Nobody reads here any more.
+    pub(super) fn close(&mut self, reader: Reader) {
+        self.waiting.remove(&reader);
+        self.keeps_unasked &= reader != Reader::Unasked;
+        self.session.close(reader);
+    }
+
+    /// The number of an error of the link: the system's, or one below 0, by its place among the others.
+    fn number_of(&mut self, error: SocketError) -> i32 {
+        error.raw_os_error().unwrap_or_else(|| {
+            self.others.push(error);
+            -(self.others.len() as i32)
+        })
+    }
+}
+
+/// The end of a datagram with the padding of its last message, which a sender may leave out.
+fn completed(room: &mut Vec<u8>, length: usize) -> usize {
+    let end = length.next_multiple_of(4);
+    room.resize(room.len().max(end), 0);
+    room[length..end].fill(0);
+    let ends = ffi::messages(&room[..end]).map(|(place, it)| place + it.length as usize);
+    if end == length || ends.last().is_some_and(|it| (end - 3..=length).contains(&it)) { end } else { length }
 }

@@ -4,8 +4,9 @@ use crate::err::RouterError;
 use crate::ffi;
 use crate::nl::Nlmsghdr;
 
-/// The errors of the kernel after which a dump can be requested again, negated: `EBUSY` and `ENOBUFS`.
-const PASSING: [i32; 2] = [-16, -105];
+/// The errors of the kernel after which a dump can be requested again, negated.
+const BUSY: i32 = -16;
+const NO_BUFFERS: i32 = -105;
 
 /// The verdict on an answer. All but [`Verdict::Pending`] are final.
 #[derive(Clone, Copy, Debug, PartialEq, Eq)]
@@ -23,10 +24,8 @@ pub enum Verdict {
     Lost(Loss),
 }
 
-/// What ended an answer before its end.
-///
-/// The routers of this crate give no `Stray`, `NoAck` or `UnexpectedAck`: what no request has is set aside, and an answer
-/// ends as the kernel ends it.
+/// What ended an answer before its end. The routers of this crate give no `Stray`, `NoAck` or `UnexpectedAck`: what no
+/// request has is set aside, and an answer ends as the kernel ends it.
 #[derive(Clone, Copy, Debug, PartialEq, Eq)]
 pub enum Loss {
     /// The socket failed, as where its buffer ran over, or did not send the request.
@@ -48,23 +47,18 @@ pub enum Loss {
 }
 
 impl Verdict {
-    /// That of the library, by its code and the error beside it.
-    pub(super) fn of(code: i32, error: i32) -> Self {
+    /// That of the library, by its code and what stands beside it.
+    pub(super) fn of((code, beside): (i32, ffi::Verdict)) -> Self {
         match code {
             ffi::END => Verdict::Complete,
             ffi::WAITS => Verdict::Pending,
             ffi::INTERRUPTED => Verdict::Interrupted,
-            ffi::KERNEL_ERROR => Verdict::Failed(error),
+            ffi::KERNEL_ERROR => Verdict::Failed(beside.error),
             ffi::LINK => Verdict::Lost(Loss::Link),
             ffi::UNENDED => Verdict::Lost(Loss::Unended),
             ffi::HANDLE => Verdict::Lost(Loss::Closed),
             _ => Verdict::Lost(Loss::Datagram),
         }
-    }
-
-    /// The verdict with one more message that could not be read as the caller's types.
-    pub(super) fn unreadable(self) -> Self {
-        if self == Verdict::Interrupted { self } else { Verdict::Lost(Loss::Unreadable) }
     }
 }
 
@@ -85,51 +79,17 @@ pub struct Dump<T, P> {
 impl<T, P> Dump<T, P> {
     /// Whether it may be complete when it is requested again.
     pub(super) fn is_passing(&self) -> bool {
-        match self.verdict {
-            Verdict::Interrupted | Verdict::Lost(Loss::Link) => true,
-            Verdict::Failed(code) => PASSING.contains(&code),
-            _ => false,
-        }
+        use Verdict::{Failed, Interrupted, Lost};
+        matches!(self.verdict, Interrupted | Lost(Loss::Link) | Failed(BUSY | NO_BUFFERS))
     }
 
-    /// Why it is incomplete.
-    pub(super) fn into_error(self) -> RouterError {
+    /// Its messages, if it is complete, or why it is not.
+    pub(super) fn into_messages(self) -> Result<Vec<Nlmsghdr<T, P>>, RouterError> {
         let why = match self.verdict {
+            Verdict::Complete => return Ok(self.messages),
             Verdict::Interrupted => "what was listed changed meanwhile",
             _ => "the list has no end",
         };
-        self.error.unwrap_or_else(|| RouterError::new(why))
-    }
-}
-
-#[cfg(test)]
-mod tests {
-    use super::{Dump, Loss, Verdict};
-    use crate::types::Buffer;
-
-    #[test]
-    fn a_mark_stays_where_a_message_is_unreadable() {
-        assert_eq!(Verdict::Interrupted.unreadable(), Verdict::Interrupted);
-        for verdict in [Verdict::Pending, Verdict::Complete, Verdict::Failed(-19), Verdict::Lost(Loss::Link)] {
-            assert_eq!(verdict.unreadable(), Verdict::Lost(Loss::Unreadable));
-        }
-    }
-
-    #[test]
-    fn a_dump_is_repeated_where_that_may_help() {
-        let rows = [
-            (Verdict::Complete, false),
-            (Verdict::Interrupted, true),
-            (Verdict::Lost(Loss::Link), true),
-            (Verdict::Lost(Loss::Unreadable), false),
-            // EBUSY and ENOBUFS of errno.h, and ENODEV.
-            (Verdict::Failed(-16), true),
-            (Verdict::Failed(-105), true),
-            (Verdict::Failed(-19), false),
-        ];
-        for (verdict, wanted) in rows {
-            let dump = Dump::<u16, Buffer> { messages: Vec::new(), verdict, is_filtered: false, error: None };
-            assert_eq!(dump.is_passing(), wanted, "{verdict:?}");
-        }
+        Err(self.error.unwrap_or_else(|| RouterError::new(why)))
     }
 }
