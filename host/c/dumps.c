@@ -141,12 +141,9 @@ static void a_dump_of_netfilter_by_one_bit(void) {
     neli_host_close(host);
 }
 
-static const struct test tests[] = {
-    {"a_dump_whose_acknowledgement_never_comes", a_dump_whose_acknowledgement_never_comes},
-    {"a_dump_whose_messages_are_no_parts", a_dump_whose_messages_are_no_parts},
-    {"a_dump_of_netfilter_by_one_bit", a_dump_of_netfilter_by_one_bit},
+const struct test tests[] = {
+    TEST(a_dump_whose_acknowledgement_never_comes),
+    TEST(a_dump_whose_messages_are_no_parts),
+    TEST(a_dump_of_netfilter_by_one_bit),
+    {0},
 };
-
-int main(int argc, char **argv) {
-    return run_tests(argc, argv, tests, sizeof tests / sizeof *tests);
-}

@@ -130,14 +130,11 @@ static void an_error_to_groups_is_lent(void) {
     neli_host_close(host);
 }
 
-static const struct test tests[] = {
-    {"lent_links_are_those_that_are_read", lent_links_are_those_that_are_read},
-    {"a_lent_refusal", a_lent_refusal},
-    {"notifications_are_lent", notifications_are_lent},
-    {"a_loss_among_what_is_lent", a_loss_among_what_is_lent},
-    {"an_error_to_groups_is_lent", an_error_to_groups_is_lent},
+const struct test tests[] = {
+    TEST(lent_links_are_those_that_are_read),
+    TEST(a_lent_refusal),
+    TEST(notifications_are_lent),
+    TEST(a_loss_among_what_is_lent),
+    TEST(an_error_to_groups_is_lent),
+    {0},
 };
-
-int main(int argc, char **argv) {
-    return run_tests(argc, argv, tests, sizeof tests / sizeof *tests);
-}

@@ -293,15 +293,12 @@ static void a_transport_has_all_functions(void) {
     WANT(neli_host_open_over(&host, NETLINK_ROUTE, PORT, NULL) == NELI_NULL && host == NULL);
 }
 
-static const struct test tests[] = {
-    {"a_client_of_a_simulator", a_client_of_a_simulator},
-    {"faults_of_a_transport", faults_of_a_transport},
-    {"a_datagram_longer_than_its_room", a_datagram_longer_than_its_room},
-    {"answers_that_come_later", answers_that_come_later},
-    {"a_refusal_says_what_is_missing", a_refusal_says_what_is_missing},
-    {"a_transport_has_all_functions", a_transport_has_all_functions},
+const struct test tests[] = {
+    TEST(a_client_of_a_simulator),
+    TEST(faults_of_a_transport),
+    TEST(a_datagram_longer_than_its_room),
+    TEST(answers_that_come_later),
+    TEST(a_refusal_says_what_is_missing),
+    TEST(a_transport_has_all_functions),
+    {0},
 };
-
-int main(int argc, char **argv) {
-    return run_tests(argc, argv, tests, sizeof tests / sizeof *tests);
-}

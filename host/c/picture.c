@@ -8,8 +8,6 @@
 #include <stdio.h>
 #include <string.h>
 #include <sys/socket.h>
-#include <sys/wait.h>
-#include <time.h>
 #include <unistd.h>
 
 /* The MTU of each link, by its index, and which of 203.0.113.N are addresses, and of 198.51.100.N routes. */
@@ -17,11 +15,6 @@ struct picture {
     uint32_t mtu[4096];
     bool addresses[256], routes[256];
 };
-
-static void rest(long microseconds) {
-    struct timespec time = {0, microseconds * 1000};
-    nanosleep(&time, NULL);
-}
 
 /* ---- What is taken ---- */
 
@@ -69,7 +62,7 @@ static void take_route(const struct neli_host *host, const struct neli_message *
     if (to != NULL && to[0] == 198) picture->routes[to[3]] = message->type == RTM_NEWROUTE;
 }
 
-static void take(const struct neli_host *host, const struct neli_message *message, struct picture *picture) {
+static void take(const struct neli_host *host, const struct neli_message *message, void *picture) {
     if (message->type <= RTM_DELLINK) take_link(host, message, picture);
     else if (message->type <= RTM_DELADDR) take_address(host, message, picture);
     else take_route(host, message, picture);
@@ -154,25 +147,9 @@ static struct neli_host *listening_host(int buffer) {
 static void several_lists_are_right_after_a_storm(void) {
     static struct picture picture, truth;
     struct neli_host *host = listening_host(8000);
-    struct neli_message message;
-    int32_t code;
-    int status = 1, losses = 0;
-    bool is_over_yet = false, was_over;
     set_loopback(host, true);
     WANT(resync(host, 5, &picture) == NELI_OK);
-    pid_t child = storm();
-    do {
-        was_over = is_over_yet;
-        if (!is_over_yet) is_over_yet = waitpid(child, &status, WNOHANG) == child;
-        code = neli_host_next(host, NELI_MULTICAST, &message);
-        if (code == NELI_ITEM) take(host, &message, &picture), rest(300);
-        else if (!is_over(host, code, EAGAIN)) {
-            WANT(is_over(host, code, ENOBUFS));
-            losses++;
-            WANT(resync(host, 1000, &picture) == NELI_OK);
-        }
-    } while (!was_over || !is_over(host, code, EAGAIN));
-    WANT(status == 0 && losses > 0);
+    follow(host, storm(), &picture, 300, take, resync);
     set_buffer(host, 1 << 20);
     WANT(resync(host, 5, &truth) == NELI_OK);
     WANT(truth.addresses[199] && truth.routes[199] && !truth.addresses[0] && !truth.routes[0]);
@@ -217,12 +194,9 @@ static void a_list_that_is_refused(void) {
     neli_host_close(host);
 }
 
-static const struct test tests[] = {
-    {"several_lists_are_right_after_a_storm", several_lists_are_right_after_a_storm},
-    {"what_comes_later_is_kept", what_comes_later_is_kept},
-    {"a_list_that_is_refused", a_list_that_is_refused},
+const struct test tests[] = {
+    TEST(several_lists_are_right_after_a_storm),
+    TEST(what_comes_later_is_kept),
+    TEST(a_list_that_is_refused),
+    {0},
 };
-
-int main(int argc, char **argv) {
-    return run_tests(argc, argv, tests, sizeof tests / sizeof *tests);
-}

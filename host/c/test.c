@@ -388,20 +388,17 @@ static void listening_goes_on(void) {
     WANT(neli_router_free(&router) == NELI_OK);
 }
 
-static const struct test tests[] = {
-    {"a_dump_of_many_datagrams", a_dump_of_many_datagrams},
-    {"two_requests_in_the_other_order", two_requests_in_the_other_order},
-    {"a_refusal_with_text_and_offset", a_refusal_with_text_and_offset},
-    {"a_route_whose_body_begins_with_a_nest", a_route_whose_body_begins_with_a_nest},
-    {"a_notification_while_a_dump_runs", a_notification_while_a_dump_runs},
-    {"a_buffer_that_ran_over", a_buffer_that_ran_over},
-    {"another_sender_is_passed_over", another_sender_is_passed_over},
-    {"nothing_that_is_wrong_crosses", nothing_that_is_wrong_crosses},
-    {"null_pointers_are_refused", null_pointers_are_refused},
-    {"a_text_of_an_earlier_item", a_text_of_an_earlier_item},
-    {"listening_goes_on", listening_goes_on},
+const struct test tests[] = {
+    TEST(a_dump_of_many_datagrams),
+    TEST(two_requests_in_the_other_order),
+    TEST(a_refusal_with_text_and_offset),
+    TEST(a_route_whose_body_begins_with_a_nest),
+    TEST(a_notification_while_a_dump_runs),
+    TEST(a_buffer_that_ran_over),
+    TEST(another_sender_is_passed_over),
+    TEST(nothing_that_is_wrong_crosses),
+    TEST(null_pointers_are_refused),
+    TEST(a_text_of_an_earlier_item),
+    TEST(listening_goes_on),
+    {0},
 };
-
-int main(int argc, char **argv) {
-    return run_tests(argc, argv, tests, sizeof tests / sizeof *tests);
-}

@@ -1,3 +1,4 @@
+#define _GNU_SOURCE
 #include "testing.h"
 #include <errno.h>
 #include <linux/if_link.h>
@@ -6,6 +7,8 @@
 #include <stdlib.h>
 #include <string.h>
 #include <sys/socket.h>
+#include <sys/wait.h>
+#include <time.h>
 
 static const uint32_t link_group = RTNLGRP_LINK;
 
@@ -15,11 +18,14 @@ void want(bool holds, const char *claim, const char *file, int line) {
     exit(1);
 }
 
-int run_tests(int argc, char **argv, const struct test *tests, size_t count) {
+int rounds = 10000;
+
+int main(int argc, char **argv) {
     if (argc > 1 && getenv("NELI_OWN_NAMESPACE") == NULL) return 2;
-    for (size_t i = 0; i < count; i++) {
-        if (argc < 2) puts(tests[i].name);
-        else if (strcmp(argv[1], tests[i].name) == 0) return tests[i].run(), 0;
+    if (argc > 2) rounds = atoi(argv[2]);
+    for (const struct test *test = tests; test->name != NULL; test++) {
+        if (argc < 2) puts(test->name);
+        else if (strcmp(argv[1], test->name) == 0) return test->run(), 0;
     }
     return argc < 2 ? 0 : 2;
 }
@@ -110,6 +116,32 @@ int in_use(struct neli_host *host) {
 
 void set_short_wait(struct neli_host *host) {
     host->link.wait = 200;
+}
+
+void rest(long microseconds) {
+    struct timespec time = {microseconds / 1000000, microseconds % 1000000 * 1000};
+    nanosleep(&time, NULL);
+}
+
+void follow(struct neli_host *host, pid_t storm, struct picture *picture, long microseconds,
+            void (*take)(const struct neli_host *host, const struct neli_message *message, void *picture),
+            int32_t (*resync)(struct neli_host *host, int times, struct picture *picture)) {
+    struct neli_message message;
+    int32_t code;
+    int status = 1, losses = 0;
+    bool is_over_yet = false, was_over;
+    do {
+        was_over = is_over_yet;
+        if (!is_over_yet) is_over_yet = waitpid(storm, &status, WNOHANG) == storm;
+        code = neli_host_next(host, NELI_MULTICAST, &message);
+        if (code == NELI_ITEM) take(host, &message, picture), rest(microseconds);
+        else if (!is_over(host, code, EAGAIN)) {
+            WANT(is_over(host, code, ENOBUFS));
+            losses++;
+            WANT(resync(host, 1000, picture) == NELI_OK);
+        }
+    } while (!was_over || !is_over(host, code, EAGAIN));
+    WANT(status == 0 && losses > 0);
 }
 
 void set_buffer(struct neli_host *host, int size) {

@@ -4,6 +4,7 @@
 
 #include "host.h"
 #include "request.h"
+#include <sys/types.h>
 
 #define WANT(claim) want(claim, #claim, __FILE__, __LINE__)
 
@@ -14,9 +15,15 @@ struct test {
     void (*run)(void);
 };
 
-/* `test NAME` runs one test, which makes and changes links: NELI_OWN_NAMESPACE must confirm that it has a network
- * namespace of its own, as `host/test` gives it. `test` alone prints the names. Returns the status of the program. */
-int run_tests(int argc, char **argv, const struct test *tests, size_t count);
+#define TEST(run) {#run, run}
+
+/* The tests of a program, up to one without a name. `PROGRAM NAME [ROUNDS]` runs one, which makes and changes links:
+ * NELI_OWN_NAMESPACE must confirm that it has a network namespace of its own, as `host/test` gives it. `PROGRAM` alone
+ * prints the names. */
+extern const struct test tests[];
+
+/* How often a test does what it repeats. */
+extern int rounds;
 
 /* A host of routing, in the group of links or in none. */
 struct neli_host *route_host(bool listens);
@@ -52,8 +59,17 @@ int in_use(struct neli_host *host);
 /* A wait ends after a fifth of a second, as EAGAIN. */
 void set_short_wait(struct neli_host *host);
 
+void rest(long microseconds);
+
 /* Sets the size of the socket's buffer, which the kernel doubles. */
 void set_buffer(struct neli_host *host, int size);
+
+/* Reads what comes to groups into a picture until a storm is over, with a rest after each message, and takes a new
+ * picture after each loss, of which there has to be one; `storm` is the process that makes it. */
+struct picture;
+void follow(struct neli_host *host, pid_t storm, struct picture *picture, long microseconds,
+            void (*take)(const struct neli_host *host, const struct neli_message *message, void *picture),
+            int32_t (*resync)(struct neli_host *host, int times, struct picture *picture));
 
 /* Whether a code means that a wait has ended, with this number. */
 bool is_over(const struct neli_host *host, int32_t code, int fault);

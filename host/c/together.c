@@ -1,4 +1,5 @@
 /* Several requests in one datagram. */
+#include "refused.h"
 #include "testing.h"
 #include <errno.h>
 #include <linux/rtnetlink.h>
@@ -120,26 +121,7 @@ static void they_may_be_too_long(void) {
     neli_host_close(host);
 }
 
-/* ---- Refused memory, by the linker's --wrap ---- */
-
-static unsigned left_to_refusal;
-
-void *__real_malloc(size_t size);
-void *__real_realloc(void *at, size_t size);
-void *__wrap_malloc(size_t size);
-void *__wrap_realloc(void *at, size_t size);
-
-static bool is_refused(void) {
-    return left_to_refusal > 0 && --left_to_refusal == 0;
-}
-
-void *__wrap_malloc(size_t size) {
-    return is_refused() ? NULL : __real_malloc(size);
-}
-
-void *__wrap_realloc(void *at, size_t size) {
-    return is_refused() ? NULL : __real_realloc(at, size);
-}
+/* ---- Refused memory ---- */
 
 /* Whichever allocation is refused, all are sent or none, and then the same call can be repeated. One that makes look-ups
  * faster may be refused without harm. */
@@ -168,16 +150,13 @@ static void memory_that_is_refused(void) {
     WANT(refusals > 3);
 }
 
-static const struct test tests[] = {
-    {"each_has_its_answer", each_has_its_answer},
-    {"some_are_closed_unread", some_are_closed_unread},
-    {"a_refusal_sends_none", a_refusal_sends_none},
-    {"their_numbers_are_free", their_numbers_are_free},
-    {"they_may_be_long", they_may_be_long},
-    {"they_may_be_too_long", they_may_be_too_long},
-    {"memory_that_is_refused", memory_that_is_refused},
+const struct test tests[] = {
+    TEST(each_has_its_answer),
+    TEST(some_are_closed_unread),
+    TEST(a_refusal_sends_none),
+    TEST(their_numbers_are_free),
+    TEST(they_may_be_long),
+    TEST(they_may_be_too_long),
+    TEST(memory_that_is_refused),
+    {0},
 };
-
-int main(int argc, char **argv) {
-    return run_tests(argc, argv, tests, sizeof tests / sizeof *tests);
-}

@@ -1,6 +1,7 @@
 /* The layer over the socket under trouble: requests that are closed early, lost, echoed or never answered, and messages
  * without a request. */
 #define _GNU_SOURCE
+#include "refused.h"
 #include "testing.h"
 #include <errno.h>
 #include <limits.h>
@@ -24,11 +25,6 @@ static size_t send_unanswered(struct neli_host *host) {
     size_t handle = 0;
     WANT(neli_host_send(host, RTM_SETLINK, 0, body.bytes, body.writer.end, &handle) == NELI_OK);
     return handle;
-}
-
-static void rest(long milliseconds) {
-    struct timespec time = {milliseconds / 1000, milliseconds % 1000 * 1000000};
-    nanosleep(&time, NULL);
 }
 
 static int64_t milliseconds(void) {
@@ -286,7 +282,7 @@ static int32_t resync(struct neli_host *host, int times, struct picture *picture
 }
 
 /* Makes and removes links, and changes the MTU of another, as fast as it can. It returns when it has begun. */
-static pid_t storm(int first, int rounds) {
+static pid_t storm(int first, int count) {
     int both[2];
     char byte;
     WANT(pipe(both) == 0);
@@ -296,7 +292,7 @@ static pid_t storm(int first, int rounds) {
         return child;
     }
     struct neli_host *host = route_host(false);
-    for (int i = first; i < first + rounds; i++) {
+    for (int i = first; i < first + count; i++) {
         char name[16], peer[16];
         snprintf(name, sizeof name, "a%d", i);
         snprintf(peer, sizeof peer, "b%d", i);
@@ -312,26 +308,10 @@ static pid_t storm(int first, int rounds) {
 static void want_right_picture(int buffer, int first) {
     static struct picture picture, truth;
     struct neli_host *host = route_host(true);
-    struct neli_message message;
-    int32_t code;
-    int status, losses = 0;
-    bool is_over_yet = false, was_over;
     set_buffer(host, buffer);
     host->link.wait = 300;
     WANT(resync(host, 5, &picture) == NELI_OK);
-    pid_t child = storm(first, 30);
-    do {
-        was_over = is_over_yet;
-        if (!is_over_yet) is_over_yet = waitpid(child, &status, WNOHANG) == child;
-        code = neli_host_next(host, NELI_MULTICAST, &message);
-        if (code == NELI_ITEM) take(host, &message, &picture), rest(1);
-        else if (!is_over(host, code, EAGAIN)) {
-            WANT(is_over(host, code, ENOBUFS));
-            losses++;
-            WANT(resync(host, 1000, &picture) == NELI_OK);
-        }
-    } while (!was_over || !is_over(host, code, EAGAIN));
-    WANT(status == 0 && losses > 0);
+    follow(host, storm(first, 30), &picture, 1000, take, resync);
     set_buffer(host, 1 << 20);
     WANT(resync(host, 5, &truth) == NELI_OK);
     WANT(memcmp(&picture, &truth, sizeof truth) == 0);
@@ -362,7 +342,7 @@ static void a_wait_has_an_end(void) {
         struct neli_host *other = route_host(false);
         for (int i = 0;; i++) {
             set_loopback(other, i % 2 == 0);
-            rest(20);
+            rest(20000);
         }
     }
     host->link.wait = 300;
@@ -573,26 +553,7 @@ static void a_request_of_many_bytes(void) {
     neli_host_close(host);
 }
 
-/* ---- Refused memory, by the linker's --wrap ---- */
-
-static unsigned left_to_refusal;
-
-void *__real_malloc(size_t size);
-void *__real_realloc(void *at, size_t size);
-void *__wrap_malloc(size_t size);
-void *__wrap_realloc(void *at, size_t size);
-
-static bool is_refused(void) {
-    return left_to_refusal > 0 && --left_to_refusal == 0;
-}
-
-void *__wrap_malloc(size_t size) {
-    return is_refused() ? NULL : __real_malloc(size);
-}
-
-void *__wrap_realloc(void *at, size_t size) {
-    return is_refused() ? NULL : __real_realloc(at, size);
-}
+/* ---- Refused memory ---- */
 
 /* The next item, and again if memory ran out. */
 static int32_t next_again(struct neli_host *host, size_t handle, struct neli_message *message) {
@@ -713,33 +674,30 @@ static void an_item_without_memory(void) {
     neli_host_close(host);
 }
 
-static const struct test tests[] = {
-    {"a_handle_that_is_closed_unread", a_handle_that_is_closed_unread},
-    {"a_handle_that_is_closed_after_a_loss", a_handle_that_is_closed_after_a_loss},
-    {"a_number_that_may_still_be_answered", a_number_that_may_still_be_answered},
-    {"a_dump_that_is_broken_off", a_dump_that_is_broken_off},
-    {"a_dump_by_one_bit", a_dump_by_one_bit},
-    {"what_nobody_reads_is_not_kept", what_nobody_reads_is_not_kept},
-    {"an_echo_reaches_its_request", an_echo_reaches_its_request},
-    {"a_loss_stands_where_it_came", a_loss_stands_where_it_came},
-    {"each_request_has_its_own_fault", each_request_has_its_own_fault},
-    {"a_picture_is_right_after_a_storm", a_picture_is_right_after_a_storm},
-    {"a_picture_by_a_larger_buffer", a_picture_by_a_larger_buffer},
-    {"a_wait_has_an_end", a_wait_has_an_end},
-    {"a_wait_has_an_end_while_more_arrives", a_wait_has_an_end_while_more_arrives},
-    {"a_wait_is_stopped", a_wait_is_stopped},
-    {"what_was_not_asked_for_ends_nothing", what_was_not_asked_for_ends_nothing},
-    {"what_would_block_is_sent_later", what_would_block_is_sent_later},
-    {"an_error_with_any_code", an_error_with_any_code},
-    {"a_padding_that_was_left_out", a_padding_that_was_left_out},
-    {"a_socket_that_is_gone", a_socket_that_is_gone},
-    {"a_request_of_many_bytes", a_request_of_many_bytes},
-    {"memory_that_is_refused_once", memory_that_is_refused_once},
-    {"memory_that_is_refused_to_a_loss", memory_that_is_refused_to_a_loss},
-    {"memory_that_is_refused_to_a_resync", memory_that_is_refused_to_a_resync},
-    {"an_item_without_memory", an_item_without_memory},
+const struct test tests[] = {
+    TEST(a_handle_that_is_closed_unread),
+    TEST(a_handle_that_is_closed_after_a_loss),
+    TEST(a_number_that_may_still_be_answered),
+    TEST(a_dump_that_is_broken_off),
+    TEST(a_dump_by_one_bit),
+    TEST(what_nobody_reads_is_not_kept),
+    TEST(an_echo_reaches_its_request),
+    TEST(a_loss_stands_where_it_came),
+    TEST(each_request_has_its_own_fault),
+    TEST(a_picture_is_right_after_a_storm),
+    TEST(a_picture_by_a_larger_buffer),
+    TEST(a_wait_has_an_end),
+    TEST(a_wait_has_an_end_while_more_arrives),
+    TEST(a_wait_is_stopped),
+    TEST(what_was_not_asked_for_ends_nothing),
+    TEST(what_would_block_is_sent_later),
+    TEST(an_error_with_any_code),
+    TEST(a_padding_that_was_left_out),
+    TEST(a_socket_that_is_gone),
+    TEST(a_request_of_many_bytes),
+    TEST(memory_that_is_refused_once),
+    TEST(memory_that_is_refused_to_a_loss),
+    TEST(memory_that_is_refused_to_a_resync),
+    TEST(an_item_without_memory),
+    {0},
 };
-
-int main(int argc, char **argv) {
-    return run_tests(argc, argv, tests, sizeof tests / sizeof *tests);
-}

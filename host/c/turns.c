@@ -17,8 +17,6 @@
 /* Two dumps, three questions, and a batch of four are sent at a time. */
 #define ALL 9
 
-static int rounds = 10000;
-
 static const struct ifinfomsg loopback = {.ifi_index = 1}, none = {.ifi_index = 4711}, links;
 
 static size_t send_addresses(struct neli_host *host) {
@@ -204,16 +202,12 @@ static void a_dump_that_goes_on_after_its_error(void) {
     neli_host_close(host);
 }
 
-static const struct test tests[] = {
-    {"sent_without_a_pause", sent_without_a_pause},
-    {"a_send_takes_nothing_in", a_send_takes_nothing_in},
-    {"a_loop_that_never_sleeps_on_an_item", a_loop_that_never_sleeps_on_an_item},
-    {"a_loop_over_what_is_ready", a_loop_over_what_is_ready},
-    {"an_end_that_no_message_is", an_end_that_no_message_is},
-    {"a_dump_that_goes_on_after_its_error", a_dump_that_goes_on_after_its_error},
+const struct test tests[] = {
+    TEST(sent_without_a_pause),
+    TEST(a_send_takes_nothing_in),
+    TEST(a_loop_that_never_sleeps_on_an_item),
+    TEST(a_loop_over_what_is_ready),
+    TEST(an_end_that_no_message_is),
+    TEST(a_dump_that_goes_on_after_its_error),
+    {0},
 };
-
-int main(int argc, char **argv) {
-    if (argc > 2) rounds = atoi(argv[2]);
-    return run_tests(argc, argv, tests, sizeof tests / sizeof *tests);
-}

@@ -156,14 +156,11 @@ static void a_dump_that_is_not_answered(void) {
     neli_host_close(host);
 }
 
-static const struct test tests[] = {
-    {"a_dump_that_is_interrupted", a_dump_that_is_interrupted},
-    {"a_dump_that_is_repeated", a_dump_that_is_repeated},
-    {"a_dump_that_fails_at_its_end", a_dump_that_fails_at_its_end},
-    {"a_dump_that_is_not_answered", a_dump_that_is_not_answered},
-    {"other_answers", other_answers},
+const struct test tests[] = {
+    TEST(a_dump_that_is_interrupted),
+    TEST(a_dump_that_is_repeated),
+    TEST(a_dump_that_fails_at_its_end),
+    TEST(a_dump_that_is_not_answered),
+    TEST(other_answers),
+    {0},
 };
-
-int main(int argc, char **argv) {
-    return run_tests(argc, argv, tests, sizeof tests / sizeof *tests);
-}

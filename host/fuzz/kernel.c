@@ -1,40 +1,11 @@
 /* The kernel to test against by any calls, against a model of a few lines: docs/SIMULATOR.md. What is read and written
  * lies beside pages that nothing may touch. A script may have an allocation refused: then the call changes nothing, and
  * the same call is made again. */
+#include "../c/refused.h"
 #include "guard.h"
 
 #define PORT 7
 #define DATAGRAMS 64
-
-/* ---- Refused memory, by the linker's --wrap ---- */
-
-static unsigned left_to_refusal;
-
-void *__real_malloc(size_t size);
-void *__real_realloc(void *at, size_t size);
-void *__wrap_malloc(size_t size);
-void *__wrap_realloc(void *at, size_t size);
-
-static bool is_refused(void) {
-    return left_to_refusal > 0 && --left_to_refusal == 0;
-}
-
-void *__wrap_malloc(size_t size) {
-    return is_refused() ? NULL : __real_malloc(size);
-}
-
-void *__wrap_realloc(void *at, size_t size) {
-    return is_refused() ? NULL : __real_realloc(at, size);
-}
-
-/* Makes a call, and again where it was refused memory. */
-#define CALLED(code, call)                                              \
-    do {                                                                \
-        code = (call);                                                  \
-        if (code == NELI_MEMORY && left_to_refusal == 0) code = (call); \
-        left_to_refusal = 0;                                            \
-        WANT(code != NELI_MEMORY);                                      \
-    } while (0)
 
 /* ---- The model ---- */
 

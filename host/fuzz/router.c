@@ -1,6 +1,7 @@
 /* The router by any calls, against a model: the receivers, and the ends of answers, by docs/ROUTER.md. Datagrams lie
  * beside pages that nothing may touch. A script may have an allocation refused: then the call changes nothing, and is
  * repeated. */
+#include "../c/refused.h"
 #include "guard.h"
 
 #define HANDLES 12
@@ -28,36 +29,6 @@ static size_t handle_count, freed[HANDLES], freed_count;
 static uint32_t next_number;
 static struct neli_router router;
 static uint8_t *in, *out;
-
-/* ---- Refused memory, by the linker's --wrap ---- */
-
-static unsigned left_to_refusal;
-
-void *__real_malloc(size_t size);
-void *__real_realloc(void *at, size_t size);
-void *__wrap_malloc(size_t size);
-void *__wrap_realloc(void *at, size_t size);
-
-static bool is_refused(void) {
-    return left_to_refusal > 0 && --left_to_refusal == 0;
-}
-
-void *__wrap_malloc(size_t size) {
-    return is_refused() ? NULL : __real_malloc(size);
-}
-
-void *__wrap_realloc(void *at, size_t size) {
-    return is_refused() ? NULL : __real_realloc(at, size);
-}
-
-/* Makes a call, and again if it was refused memory. */
-#define CALLED(code, call)                                     \
-    do {                                                       \
-        code = (call);                                         \
-        if (code == NELI_MEMORY && left_to_refusal == 0) code = (call); \
-        left_to_refusal = 0;                                   \
-        WANT(code != NELI_MEMORY);                             \
-    } while (0)
 
 /* ---- The model ---- */
 

@@ -338,10 +338,9 @@ impl<T> AttrTypeBuilder<T> {
         self
     }
 
-    /// The number.
-    pub fn nla_type(mut self, number: T) -> Self {
-        self.nla_type = Some(number);
-        self
+    setters! {
+        /// The number.
+        nla_type: T,
     }
 
     /// Returns the type, if a number was given; else refused as [`BuildError::Uninitialized`].
@@ -421,10 +420,9 @@ impl<T, P> Default for RtattrBuilder<T, P> {
 }
 
 impl<T: AttrNumber, P: ToBytes> RtattrBuilder<T, P> {
-    /// The number of its kind.
-    pub fn rta_type(mut self, number: T) -> Self {
-        self.rta_type = Some(number);
-        self
+    setters! {
+        /// The number of its kind.
+        rta_type: T,
     }
 
     /// Whether it is marked as nested, by `NLA_F_NESTED`, as Linux requires it of newer attributes; it is not, if this
@@ -434,10 +432,9 @@ impl<T: AttrNumber, P: ToBytes> RtattrBuilder<T, P> {
         self
     }
 
-    /// The payload.
-    pub fn rta_payload(mut self, payload: P) -> Self {
-        self.rta_payload = Some(payload);
-        self
+    setters! {
+        /// The payload.
+        rta_payload: P,
     }
 
     /// Returns the attribute. Refused as [`BuildError::Uninitialized`] with the first of both that was not given, and
@@ -463,16 +460,12 @@ impl<T, P> Default for NlattrBuilder<T, P> {
 }
 
 impl<T: AttrNumber, P: ToBytes> NlattrBuilder<T, P> {
-    /// The number of its kind, and its flags.
-    pub fn nla_type(mut self, nla_type: AttrType<T>) -> Self {
-        self.nla_type = Some(nla_type);
-        self
-    }
+    setters! {
+        /// The number of its kind, and its flags.
+        nla_type: AttrType<T>,
 
-    /// The payload.
-    pub fn nla_payload(mut self, payload: P) -> Self {
-        self.nla_payload = Some(payload);
-        self
+        /// The payload.
+        nla_payload: P,
     }
 
     /// Returns the attribute. Refused as [`BuildError::Uninitialized`] with the first of both that was not given, and

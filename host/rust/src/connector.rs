@@ -87,22 +87,15 @@ impl<P> Default for CnMsgBuilder<P> {
 }
 
 impl<P> CnMsgBuilder<P> {
-    /// The receiver.
-    pub fn idx(mut self, idx: CnMsgIdx) -> Self {
-        self.idx = Some(idx);
-        self
-    }
+    setters! {
+        /// The receiver.
+        idx: CnMsgIdx,
 
-    /// The receiver's part.
-    pub fn val(mut self, val: CnMsgVal) -> Self {
-        self.val = Some(val);
-        self
-    }
+        /// The receiver's part.
+        val: CnMsgVal,
 
-    /// The payload.
-    pub fn payload(mut self, payload: P) -> Self {
-        self.payload = Some(payload);
-        self
+        /// The payload.
+        payload: P,
     }
 
     /// Returns the body, if each of these was given; its numbers and flags are 0. Else refused as

@@ -121,12 +121,16 @@ pub struct Verdict {
     pub filtered: u8,
 }
 
-/// `struct neli_session`.
+/// `struct neli_session`, `struct neli_kernel_dump` and `struct neli_tables`: what the library alone looks into.
 #[repr(C)]
 #[derive(Debug)]
-struct RawSession {
+struct Opaque {
     is_open: bool,
     state: *mut c_void,
+}
+
+impl Opaque {
+    const CLOSED: Opaque = Opaque { is_open: false, state: std::ptr::null_mut() };
 }
 
 unsafe extern "C" {
@@ -160,29 +164,29 @@ unsafe extern "C" {
         payload_length: usize,
     ) -> i32;
     fn neli_c_end_message(out: *mut u8, room: usize, writer: *const Writer) -> i32;
-    fn neli_c_session_new(session: *mut RawSession, protocol: i32, port: u32, keeps_unasked: u8) -> i32;
-    fn neli_c_session_free(session: *mut RawSession) -> i32;
-    fn neli_c_session_send_all(session: *mut RawSession, requests: *const u8, length: usize) -> i32;
-    fn neli_c_session_next_outgoing(session: *mut RawSession) -> i32;
-    fn neli_c_session_outgoing(session: *mut RawSession, bytes: *mut Bytes) -> i32;
-    fn neli_c_session_sent(session: *mut RawSession) -> i32;
-    fn neli_c_session_not_sent(session: *mut RawSession, error_number: i32) -> i32;
+    fn neli_c_session_new(session: *mut Opaque, protocol: i32, port: u32, keeps_unasked: u8) -> i32;
+    fn neli_c_session_free(session: *mut Opaque) -> i32;
+    fn neli_c_session_send_all(session: *mut Opaque, requests: *const u8, length: usize) -> i32;
+    fn neli_c_session_next_outgoing(session: *mut Opaque) -> i32;
+    fn neli_c_session_outgoing(session: *mut Opaque, bytes: *mut Bytes) -> i32;
+    fn neli_c_session_sent(session: *mut Opaque) -> i32;
+    fn neli_c_session_not_sent(session: *mut Opaque, error_number: i32) -> i32;
     fn neli_c_session_receive(
-        session: *mut RawSession,
+        session: *mut Opaque,
         bytes: *const u8,
         length: usize,
         group: u32,
         is_joined: u8,
         taken: *mut usize,
     ) -> i32;
-    fn neli_c_session_fault(session: *mut RawSession, error_number: i32) -> i32;
-    fn neli_c_session_quiet(session: *mut RawSession) -> i32;
-    fn neli_c_session_is_ready(session: *mut RawSession, reader: u32, number: u32) -> i32;
-    fn neli_c_session_next(session: *mut RawSession, reader: u32, number: u32, lent: *mut RawLent) -> i32;
-    fn neli_c_session_pass(session: *mut RawSession, reader: u32, number: u32) -> i32;
-    fn neli_c_session_verdict(session: *mut RawSession, number: u32, verdict: *mut Verdict) -> i32;
-    fn neli_c_session_close(session: *mut RawSession, number: u32) -> i32;
-    fn neli_c_session_close_multicast(session: *mut RawSession) -> i32;
+    fn neli_c_session_fault(session: *mut Opaque, error_number: i32) -> i32;
+    fn neli_c_session_quiet(session: *mut Opaque) -> i32;
+    fn neli_c_session_is_ready(session: *mut Opaque, reader: u32, number: u32) -> i32;
+    fn neli_c_session_next(session: *mut Opaque, reader: u32, number: u32, lent: *mut RawLent) -> i32;
+    fn neli_c_session_pass(session: *mut Opaque, reader: u32, number: u32) -> i32;
+    fn neli_c_session_verdict(session: *mut Opaque, number: u32, verdict: *mut Verdict) -> i32;
+    fn neli_c_session_close(session: *mut Opaque, number: u32) -> i32;
+    fn neli_c_session_close_multicast(session: *mut Opaque) -> i32;
 }
 
 /// The text of a code.
@@ -274,7 +278,7 @@ impl Reader {
 /// what is lent, so that it is read only until then.
 #[derive(Debug)]
 pub struct Session {
-    raw: RawSession,
+    raw: Opaque,
     lent: Option<RawLent>,
 }
 
@@ -285,7 +289,7 @@ unsafe impl Send for Session {}
 impl Session {
     /// A session of a protocol and a port that also keeps what answers no request, or the code of a refusal.
     pub fn new(protocol: i32, port: u32) -> Result<Session, i32> {
-        let mut raw = RawSession { is_open: false, state: std::ptr::null_mut() };
+        let mut raw = Opaque::CLOSED;
         // SAFETY: all bytes of a closed session are zero, and the library keeps nothing of its address, so that it may
         // be moved afterwards; it is neither `Copy` nor `Clone`.
         match unsafe { neli_c_session_new(&mut raw, protocol, port, 1) } {
@@ -295,7 +299,7 @@ impl Session {
     }
 
     /// The session for a call, which ends what is lent.
-    fn raw(&mut self) -> &mut RawSession {
+    fn raw(&mut self) -> &mut Opaque {
         self.lent = None;
         &mut self.raw
     }

@@ -1,8 +1,8 @@
 //! What `ffi.rs` declares is what `include/neli.h` declares.
 
-use super::kernel::{RawDump, Request};
-use super::tables::{Named, RawTables};
-use super::{Answer, Attribute, Bytes, Message, RawLent, RawSession, Verdict, Walk, Writer};
+use super::kernel::Request;
+use super::tables::Named;
+use super::{Answer, Attribute, Bytes, Message, Opaque, RawLent, Verdict, Walk, Writer};
 use std::io::Write;
 use std::mem::offset_of;
 use std::process::{Command, Stdio};
@@ -103,11 +103,9 @@ fn rust_type(c: &str) -> String {
         "struct neli_writer" => "Writer",
         "struct neli_lent" => "RawLent",
         "struct neli_verdict" => "Verdict",
-        "struct neli_session" => "RawSession",
+        "struct neli_session" | "struct neli_kernel_dump" | "struct neli_tables" => "Opaque",
         "struct neli_bytes" => "Bytes",
         "struct neli_request" => "Request",
-        "struct neli_kernel_dump" => "RawDump",
-        "struct neli_tables" => "RawTables",
         "struct neli_named" => "Named",
         other => panic!("{other}"),
     };
@@ -182,11 +180,9 @@ fn structs_are_laid_out_as_in_c() {
         (size_of::<Writer>(), 16),
         (size_of::<RawLent>(), 56),
         (size_of::<Verdict>(), 8),
-        (size_of::<RawSession>(), 16),
+        (size_of::<Opaque>(), 16),
         (size_of::<Bytes>(), 16),
         (size_of::<Request>(), 48),
-        (size_of::<RawDump>(), 16),
-        (size_of::<RawTables>(), 16),
         (size_of::<Named>(), 56),
     ];
     for (found, wanted) in sizes {
@@ -197,9 +193,7 @@ fn structs_are_laid_out_as_in_c() {
     assert_eq!((offset_of!(Answer, echo_number), offset_of!(Answer, attributes)), (12, 24));
     assert_eq!((offset_of!(RawLent, bytes), offset_of!(RawLent, length), offset_of!(RawLent, error)), (32, 40, 48));
     assert_eq!(offset_of!(Verdict, filtered), 4);
-    assert_eq!((offset_of!(RawSession, state), offset_of!(Bytes, length)), (8, 8));
+    assert_eq!((offset_of!(Opaque, state), offset_of!(Bytes, length)), (8, 8));
     assert_eq!((offset_of!(Request, port), offset_of!(Request, wants_echo)), (32, 40));
-    assert_eq!(offset_of!(RawDump, state), 8);
-    assert_eq!(offset_of!(RawTables, state), 8);
     assert_eq!((offset_of!(Named, depth), offset_of!(Named, payload)), (3, 8));
 }

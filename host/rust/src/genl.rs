@@ -62,16 +62,12 @@ impl<C, T> Default for GenlmsghdrBuilder<C, T> {
 }
 
 impl<C, T> GenlmsghdrBuilder<C, T> {
-    /// The command.
-    pub fn cmd(mut self, command: C) -> Self {
-        self.cmd = Some(command);
-        self
-    }
+    setters! {
+        /// The command.
+        cmd: C,
 
-    /// The family's version.
-    pub fn version(mut self, version: u8) -> Self {
-        self.version = Some(version);
-        self
+        /// The family's version.
+        version: u8,
     }
 
     /// The attributes; none, if they are not given.

@@ -30,6 +30,17 @@
 //! ```
 #![deny(unsafe_code, missing_docs)]
 
+/// Methods of a builder, each of which sets its field.
+macro_rules! setters {
+    ($($(#[$doc:meta])* $field:ident: $kind:ty,)*) => {
+        $($(#[$doc])*
+        pub fn $field(mut self, $field: $kind) -> Self {
+            self.$field = Some($field);
+            self
+        })*
+    };
+}
+
 pub mod attr;
 pub mod connector;
 pub mod consts;

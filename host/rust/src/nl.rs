@@ -63,32 +63,39 @@ pub struct NlmsghdrAck<T> {
     nl_pid: u32,
 }
 
-impl<T> NlmsghdrAck<T> {
-    /// The length that the request stated.
-    pub fn nl_len(&self) -> u32 {
-        self.nl_len
-    }
+/// The fields of a header.
+macro_rules! header_fields {
+    ($($header:ident<$($kind:ident),*>),*) => {
+        $(impl<$($kind),*> $header<$($kind),*> {
+            /// The length that the header states, in bytes, padding left out.
+            pub fn nl_len(&self) -> u32 {
+                self.nl_len
+            }
 
-    /// Its type.
-    pub fn nl_type(&self) -> &T {
-        &self.nl_type
-    }
+            /// The type of the message.
+            pub fn nl_type(&self) -> &T {
+                &self.nl_type
+            }
 
-    /// Its flags.
-    pub fn nl_flags(&self) -> &NlmF {
-        &self.nl_flags
-    }
+            /// Its flags.
+            pub fn nl_flags(&self) -> &NlmF {
+                &self.nl_flags
+            }
 
-    /// Its sequence number.
-    pub fn nl_seq(&self) -> &u32 {
-        &self.nl_seq
-    }
+            /// Its sequence number: a reply has that of its request.
+            pub fn nl_seq(&self) -> &u32 {
+                &self.nl_seq
+            }
 
-    /// The port from which it was sent.
-    pub fn nl_pid(&self) -> &u32 {
-        &self.nl_pid
-    }
+            /// The port of the requesting socket.
+            pub fn nl_pid(&self) -> &u32 {
+                &self.nl_pid
+            }
+        })*
+    };
 }
+
+header_fields!(Nlmsghdr<T, P>, NlmsghdrAck<T>);
 
 impl<T> Nlmsgerr<T> {
     /// 0, or an error number of Linux, negated.
@@ -161,31 +168,6 @@ impl<T> fmt::Display for Nlmsgerr<T> {
 }
 
 impl<T, P> Nlmsghdr<T, P> {
-    /// The length that the header states, in bytes, padding left out.
-    pub fn nl_len(&self) -> u32 {
-        self.nl_len
-    }
-
-    /// The type of the message.
-    pub fn nl_type(&self) -> &T {
-        &self.nl_type
-    }
-
-    /// Its flags.
-    pub fn nl_flags(&self) -> &NlmF {
-        &self.nl_flags
-    }
-
-    /// Its sequence number: a reply has that of its request.
-    pub fn nl_seq(&self) -> &u32 {
-        &self.nl_seq
-    }
-
-    /// The port of the requesting socket.
-    pub fn nl_pid(&self) -> &u32 {
-        &self.nl_pid
-    }
-
     /// Its payload.
     pub fn nl_payload(&self) -> &NlPayload<T, P> {
         &self.nl_payload
@@ -323,10 +305,9 @@ impl<T, P> Default for NlmsghdrBuilder<T, P> {
 }
 
 impl<T: NlType, P: ToBytes> NlmsghdrBuilder<T, P> {
-    /// The type of the message.
-    pub fn nl_type(mut self, nl_type: T) -> Self {
-        self.nl_type = Some(nl_type);
-        self
+    setters! {
+        /// The type of the message.
+        nl_type: T,
     }
 
     /// Its flags; none, if they are not given.
@@ -347,10 +328,9 @@ impl<T: NlType, P: ToBytes> NlmsghdrBuilder<T, P> {
         self
     }
 
-    /// Its payload.
-    pub fn nl_payload(mut self, payload: NlPayload<T, P>) -> Self {
-        self.nl_payload = Some(payload);
-        self
+    setters! {
+        /// Its payload.
+        nl_payload: NlPayload<T, P>,
     }
 
     /// Returns the message. Refused as [`BuildError::Uninitialized`] with the first of type and payload that was not

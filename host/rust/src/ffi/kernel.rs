@@ -1,7 +1,6 @@
 //! The kernel to test against, as `include/neli.h` declares it.
 
-use super::{END, Message, Walk};
-use std::ffi::c_void;
+use super::{END, Message, Opaque, Walk};
 
 /// `struct neli_request`.
 #[repr(C)]
@@ -14,14 +13,6 @@ pub struct Request {
     pub wants_dump: u8,
     pub wants_routing_dump: u8,
     pub wants_echo: u8,
-}
-
-/// `struct neli_kernel_dump`.
-#[repr(C)]
-#[derive(Debug)]
-pub(super) struct RawDump {
-    is_open: bool,
-    pub(super) state: *mut c_void,
 }
 
 unsafe extern "C" {
@@ -75,25 +66,25 @@ unsafe extern "C" {
         room: usize,
         length: *mut usize,
     ) -> i32;
-    fn neli_c_kernel_dump_new(dump: *mut RawDump, request: *const Request, limit: usize) -> i32;
-    fn neli_c_kernel_dump_free(dump: *mut RawDump) -> i32;
-    fn neli_c_kernel_dump_push(dump: *mut RawDump, kind: u16, flags: u16, body: *const u8, body_length: usize) -> i32;
+    fn neli_c_kernel_dump_new(dump: *mut Opaque, request: *const Request, limit: usize) -> i32;
+    fn neli_c_kernel_dump_free(dump: *mut Opaque) -> i32;
+    fn neli_c_kernel_dump_push(dump: *mut Opaque, kind: u16, flags: u16, body: *const u8, body_length: usize) -> i32;
     fn neli_c_kernel_dump_push_reply(
-        dump: *mut RawDump,
+        dump: *mut Opaque,
         kind: u16,
         flags: u16,
         body: *const u8,
         body_length: usize,
     ) -> i32;
-    fn neli_c_kernel_dump_begin_datagram(dump: *mut RawDump) -> i32;
+    fn neli_c_kernel_dump_begin_datagram(dump: *mut Opaque) -> i32;
     fn neli_c_kernel_dump_finish(
-        dump: *mut RawDump,
+        dump: *mut Opaque,
         flags: u16,
         code: i32,
         ext_ack: *const u8,
         ext_ack_length: usize,
     ) -> i32;
-    fn neli_c_kernel_dump_next(dump: *mut RawDump, out: *mut u8, room: usize, length: *mut usize) -> i32;
+    fn neli_c_kernel_dump_next(dump: *mut Opaque, out: *mut u8, room: usize, length: *mut usize) -> i32;
 }
 
 /// The next message of a walk over these bytes, as a request from the socket of this port.
@@ -143,7 +134,7 @@ pub fn notification(head: &Message, body: &[u8], out: &mut [u8], length: &mut us
 
 /// A dump of the library that is open until it is dropped. Each call is `&mut`, so that no two overlap.
 #[derive(Debug)]
-pub struct Dump(RawDump);
+pub struct Dump(Opaque);
 
 // SAFETY: the state is memory of the C library's heap, which any thread may use and free, and the library keeps nothing
 // of a thread. It is reached by `&mut` alone.
@@ -152,7 +143,7 @@ unsafe impl Send for Dump {}
 impl Dump {
     /// A dump that answers a request, or the code of a refusal.
     pub fn new(request: &Request, limit: usize) -> Result<Dump, i32> {
-        let mut raw = RawDump { is_open: false, state: std::ptr::null_mut() };
+        let mut raw = Opaque::CLOSED;
         // SAFETY: all bytes of a closed dump are zero, and the library keeps nothing of its address or the request's, so
         // that it may be moved afterwards; it is neither `Copy` nor `Clone`.
         match unsafe { neli_c_kernel_dump_new(&mut raw, request, limit) } {

@@ -1,7 +1,6 @@
 //! Tables of families, as `include/neli.h` declares them.
 
-use super::{END, Message};
-use std::ffi::c_void;
+use super::{END, Message, Opaque};
 
 /// `struct neli_named`.
 #[repr(C)]
@@ -18,20 +17,12 @@ pub struct Named {
     pub value_length: usize,
 }
 
-/// `struct neli_tables`.
-#[repr(C)]
-#[derive(Debug)]
-pub(super) struct RawTables {
-    is_open: bool,
-    pub(super) state: *mut c_void,
-}
-
 unsafe extern "C" {
-    fn neli_c_tables_new(tables: *mut RawTables) -> i32;
-    fn neli_c_tables_built_in(tables: *mut RawTables) -> i32;
-    fn neli_c_tables_free(tables: *mut RawTables) -> i32;
+    fn neli_c_tables_new(tables: *mut Opaque) -> i32;
+    fn neli_c_tables_built_in(tables: *mut Opaque) -> i32;
+    fn neli_c_tables_free(tables: *mut Opaque) -> i32;
     fn neli_c_tables_add(
-        tables: *mut RawTables,
+        tables: *mut Opaque,
         text: *const u8,
         text_length: usize,
         line: *mut usize,
@@ -39,16 +30,16 @@ unsafe extern "C" {
         room: usize,
         length: *mut usize,
     ) -> i32;
-    fn neli_c_tables_learn(tables: *mut RawTables, id: u16, name: *const u8, name_length: usize) -> i32;
+    fn neli_c_tables_learn(tables: *mut Opaque, id: u16, name: *const u8, name_length: usize) -> i32;
     fn neli_c_tables_learn_from(
-        tables: *mut RawTables,
+        tables: *mut Opaque,
         protocol: u16,
         bytes: *const u8,
         length: usize,
         message: *const Message,
     ) -> i32;
     fn neli_c_message_text(
-        tables: *mut RawTables,
+        tables: *mut Opaque,
         protocol: u16,
         bytes: *const u8,
         length: usize,
@@ -58,7 +49,7 @@ unsafe extern "C" {
         size: *mut usize,
     ) -> i32;
     fn neli_c_message_json(
-        tables: *mut RawTables,
+        tables: *mut Opaque,
         protocol: u16,
         bytes: *const u8,
         length: usize,
@@ -68,7 +59,7 @@ unsafe extern "C" {
         size: *mut usize,
     ) -> i32;
     fn neli_c_datagram_text(
-        tables: *mut RawTables,
+        tables: *mut Opaque,
         protocol: u16,
         bytes: *const u8,
         length: usize,
@@ -77,7 +68,7 @@ unsafe extern "C" {
         size: *mut usize,
     ) -> i32;
     fn neli_c_datagram_json(
-        tables: *mut RawTables,
+        tables: *mut Opaque,
         protocol: u16,
         bytes: *const u8,
         length: usize,
@@ -86,7 +77,7 @@ unsafe extern "C" {
         size: *mut usize,
     ) -> i32;
     fn neli_c_named_items(
-        tables: *mut RawTables,
+        tables: *mut Opaque,
         protocol: u16,
         bytes: *const u8,
         length: usize,
@@ -99,7 +90,7 @@ unsafe extern "C" {
         size: *mut usize,
     ) -> i32;
     fn neli_c_check(
-        tables: *mut RawTables,
+        tables: *mut Opaque,
         protocol: u16,
         bytes: *const u8,
         length: usize,
@@ -109,7 +100,7 @@ unsafe extern "C" {
         size: *mut usize,
     ) -> i32;
     fn neli_c_path_at(
-        tables: *mut RawTables,
+        tables: *mut Opaque,
         protocol: u16,
         bytes: *const u8,
         length: usize,
@@ -120,7 +111,7 @@ unsafe extern "C" {
         size: *mut usize,
     ) -> i32;
     fn neli_c_refusal_text(
-        tables: *mut RawTables,
+        tables: *mut Opaque,
         protocol: u16,
         bytes: *const u8,
         length: usize,
@@ -146,7 +137,7 @@ pub struct Sought<'b> {
 /// Tables of the library that are open until they are dropped. Each call is `&mut`, so that no two overlap.
 #[derive(Debug)]
 pub struct Tables {
-    raw: RawTables,
+    raw: Opaque,
     /// The texts that the library reads in place. A boxed slice stays where it is while this list grows.
     texts: Vec<Box<[u8]>>,
 }
@@ -156,8 +147,8 @@ pub struct Tables {
 unsafe impl Send for Tables {}
 
 impl Tables {
-    fn opened(open: unsafe extern "C" fn(*mut RawTables) -> i32) -> Result<Tables, i32> {
-        let mut raw = RawTables { is_open: false, state: std::ptr::null_mut() };
+    fn opened(open: unsafe extern "C" fn(*mut Opaque) -> i32) -> Result<Tables, i32> {
+        let mut raw = Opaque::CLOSED;
         // SAFETY: all bytes of closed tables are zero, and the library keeps nothing of their address, so that they may
         // be moved afterwards; they are neither `Copy` nor `Clone`.
         match unsafe { open(&mut raw) } {
