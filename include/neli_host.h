@@ -123,7 +123,8 @@ int32_t neli_host_send_all(struct neli_host *host, const struct neli_host_reques
 /* Reads the next item of a handle, and may wait for datagrams.
  *   NELI_ITEM           a message, the header of the bytes at `neli_host_item`; also an acknowledgement, and the end of a
  *                       dump (NLMSG_DONE)
- *   NELI_KERNEL_ERROR   of a request: the kernel's error, which is such a message too, and ends the answer
+ *   NELI_KERNEL_ERROR   of a request: the kernel's error, which is such a message too, and ends the answer, but for
+ *                       ENOBUFS of a dump: the buffer was full as it began, and its messages follow
  *   NELI_END            of a request: its answer has ended, or the socket was seen empty, so that nothing more comes
  *   NELI_LINK           something was lost here, by the fault of the socket that `neli_host_fault` returns, as ENOBUFS
  *                       if its buffer ran over; it ends an answer, and more follows for the two other handles. Or the
