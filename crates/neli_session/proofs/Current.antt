@@ -1,6 +1,6 @@
 -- A list is current where its last request was answered completely, and nothing was lost since.
-use Rattle.std.proofs.Common.{ℕ, ◌≡◌, Bool, true, false, ◌==◌, if◌then◌else◌, List, [], ◌∷◌, ◌++◌, Option, Some, None}
-use Rattle.std.proofs.Common.{refl, sym, ap, ◌∙◌}
+use Rattle.std.proofs.Common.{ℕ, ◌≡◌, Bool, true, false, ◌==◌, if◌then◌else◌, List, [], ◌∷◌, ◌++◌, Some}
+use Rattle.std.proofs.Common.{refl, sym, ◌∙◌}
 use Rattle.std.specs.List.{list_any}
 use Rattle.neli_session.specs.declared.freshness.Freshness.{Freshness}
 use Rattle.neli_session.specs.declared.freshness.Freshness.TheVariants as list

@@ -1,9 +1,11 @@
 mod Messages
 mod Queues
+mod Passed
 mod Datagrams
 mod AllRead
 mod Same
 mod Entries
+mod Runs
 mod Later
 mod Outboxes
 mod Soundness

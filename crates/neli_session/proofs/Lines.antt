@@ -376,6 +376,24 @@ line-less links ks first last ns n link line within own step =
       apart = rest.1;
     })
 
+-- ---- the last
+
+last-again-after : (m : ℕ) (ns : List ℕ) (n : ℕ) → AreApart (m ∷ ns) → last_after (Some m) ns ≡ Some n
+    → without n (m ∷ ns) ++ n ∷ [] ≡ m ∷ ns
+last-again-after m [] n apart e =
+    let same : m ≡ n = cc in
+    subst (λ (k : ℕ). without k (m ∷ []) ++ k ∷ [] ≡ m ∷ []) same
+    (ap (λ (b : Bool). (if b then [] else m ∷ []) ++ m ∷ []) (itself m))
+last-again-after m (k ∷ ks) n apart e =
+    ap (λ (b : Bool). (if b then without n (k ∷ ks) else m ∷ without n (k ∷ ks)) ++ n ∷ [])
+    (differ m n (k ∷ ks) apart.0 (last-stands k ks n e))
+    ∙ ap (λ (ms : List ℕ). m ∷ ms) (last-again-after k ks n apart.1 e)
+
+-- the last that goes to the end stays where it is
+pub last-again : (ns : List ℕ) (n : ℕ) → AreApart ns → last_in ns ≡ Some n → without n ns ++ n ∷ [] ≡ ns
+last-again [] n apart e = cc
+last-again (m ∷ ns) n apart e = last-again-after m ns n apart e
+
 -- ---- the line that is seen
 
 -- a line is its walk

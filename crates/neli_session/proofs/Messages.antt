@@ -1,5 +1,5 @@
 -- Messages at the front of bytes.
-use Rattle.std.proofs.Common.{ℕ, ◌+◌, ◌-◌, ◌<◌, ◌≡◌, ◌≤◌, List, [], ◌∷◌, ◌++◌, length, drop, Some, None, Ok, Err, refl, sym}
+use Rattle.std.proofs.Common.{ℕ, ◌+◌, ◌-◌, ◌<◌, ◌≡◌, ◌≤◌, List, [], ◌∷◌, ◌++◌, length, drop, Some, None, Result, Ok, Err, refl, sym}
 use Rattle.std.proofs.Common.{ap, ◌∙◌, arith, length-append, length-drop, take, append-nil}
 use Rattle.std.proofs.Math.Seq.{drop-append_seam, take-append_seam}
 use Rattle.std.proofs.lemmas.List.{append_cancel_right, length-take-le, take-append-drop}
@@ -156,3 +156,37 @@ fault-at bytes place first at e more here is =
     cut_of-fault layout (layout_with-placed same _) (omega arith) (drop place bytes) e
     (λ none. absurd (let l = length-drop place bytes in let z : length (drop place bytes) ≡ 0 = ap length none in
     omega (arith, l, z, more))) refused
+
+-- ---- the end of whole messages
+
+empty : (s : List ℕ) → length s ≡ 0 → s ≡ []
+empty [] e = refl
+empty (b ∷ s) e = cc
+
+-- whole messages that are none are no bytes
+empty-whole : (s : List ℕ) → IsWhole s → messages_of s ≡ [] → s ≡ []
+empty-whole s whole none = go (frame_at layout s) refl
+  where
+    go : (r : Result (Lent ℕ × List ℕ) DeError) → frame_at layout s ≡ r → s ≡ []
+    go (Err e) at = refused-none s e at whole
+    go (Ok p) at =
+        let first : messages_of s ≡ p.0 ∷ messages_of p.1 = ap (λ (c : Cut (Lent ℕ)). c.0) (message-first s p.1 p.0 at) in
+        let wrong : [] ≡ p.0 ∷ messages_of p.1 = sym none ∙ first in
+        absurd cc
+
+pub at-end : (bytes : List ℕ) (place : ℕ) → place ≡ length bytes → messages_of (drop place bytes) ≡ []
+at-end bytes place end =
+    let none : drop place bytes ≡ [] = empty (drop place bytes) (omega (arith, length-drop place bytes, end)) in
+    ap messages_of none ∙ ap (λ (c : Cut (Lent ℕ)). c.0) none-there
+
+pub end-at : (bytes : List ℕ) (place : ℕ) → place ≤ length bytes → IsWhole (drop place bytes)
+    → messages_of (drop place bytes) ≡ [] → place ≡ length bytes
+end-at bytes place low whole none =
+    let gone : length (drop place bytes) ≡ 0 = ap length (empty-whole (drop place bytes) whole none) in
+    omega (arith, length-drop place bytes, gone, low)
+
+-- the bytes of a message at a place
+pub span-front : (bytes span : List ℕ) (place : ℕ) → drop place bytes ≡ span ++ drop (place + length span) bytes
+    → take (length span) (drop place bytes) ≡ span
+span-front bytes span place split =
+    ap (λ (xs : List ℕ). take (length span) xs) split ∙ take-append_seam span (drop (place + length span) bytes)

@@ -1,8 +1,10 @@
 -- The entries of a queue.
-use Rattle.std.proofs.Common.{ℕ, ◌≡◌, ◌≢◌, List, [], ◌∷◌, ◌++◌, refl, sym, ap, ◌∙◌}
+use Rattle.std.proofs.Common.{ℕ, ◌≡◌, ◌≢◌, List, [], ◌∷◌, ◌++◌, Option, Some, None, Ok, refl, sym, ap, subst, ◌∙◌}
 use Rattle.neli_lent.specs.Messages.{Lent}
+use Rattle.neli_session.specs.declared.noted.Noted.{Noted}
 use Rattle.neli_session.specs.declared.queue.Entry.{Entry}
-use Rattle.neli_session.specs.Waiting.{AreFilled, Item, all_items, as_items, items_of}
+use Rattle.neli_session.specs.Noted.{noted_of}
+use Rattle.neli_session.specs.Waiting.{AreFilled, Item, all_items, as_items, entries_in, items_of}
 
 pub all-last : (es : List Entry) (e : Entry) → all_items (es ++ e ∷ []) ≡ all_items es ++ items_of e
 all-last [] e = append-none (items_of e)
@@ -76,3 +78,64 @@ front-gone e es item later some none at = go (items_of e) refl some at
     go (x ∷ xs) is some at =
         let same : xs ++ all_items es ≡ later = cc in
         ap (λ (ys : List Item). ys ++ all_items es) (sym (none x xs is)) ∙ same
+
+-- ---- the last entry
+
+last-cancel : (xs ys : List Entry) (x y : Entry) → xs ++ x ∷ [] ≡ ys ++ y ∷ [] → xs ≡ ys
+last-cancel [] [] x y e = refl
+last-cancel [] (z ∷ []) x y e = cc
+last-cancel [] (z ∷ w ∷ ys) x y e = cc
+last-cancel (z ∷ []) [] x y e = cc
+last-cancel (z ∷ w ∷ xs) [] x y e = cc
+last-cancel (z ∷ xs) (w ∷ ys) x y e =
+    let rest : xs ++ x ∷ [] ≡ ys ++ y ∷ [] = cc in
+    let first : z ≡ w = cc in
+    ap (λ (v : Entry). v ∷ xs) first ∙ ap (λ (vs : List Entry). w ∷ vs) (last-cancel xs ys x y rest)
+
+-- the entries without the last
+pub back-last : (front : Option Entry) (later less : List Entry) (l : Entry) → later ≡ less ++ l ∷ []
+    → (es : List Entry) (e : Entry) → entries_in front later ≡ es ++ e ∷ [] → entries_in front less ≡ es
+back-last None later less l is es e at = last-cancel less es l e (sym is ∙ at)
+back-last (Some f) later less l is es e at =
+    last-cancel (f ∷ less) es l e (ap (λ (xs : List Entry). f ∷ xs) (sym is) ∙ at)
+
+-- a queue with a first entry has something
+pub some-waits : (front : Option Entry) (later : List Entry) (e : Entry) → front ≡ Some e
+    → AreFilled (entries_in front later) → all_items (entries_in front later) ≢ []
+some-waits None later e is filled = cc
+some-waits (Some f) later e is filled = λ none.
+    let gone = none-waits (f ∷ later) filled none in
+    cc
+
+-- ---- what is noted of the first message
+
+pub noted-first : (ms left : List (Lent ℕ)) (r : Noted) (item : Item) (later : List Item)
+    → ((m : Lent ℕ) (after : List (Lent ℕ)) → ms ≡ m ∷ after → (left ≡ after) × (r ≡ noted_of (Ok m)))
+    → as_items ms ≡ item ∷ later → r ≡ noted_of item
+noted-first [] left r item later passed at = cc
+noted-first (m ∷ ms) left r item later passed at =
+    let same : Ok m ≡ item = cc in
+    (passed m ms refl).1 ∙ ap (λ (x : Item). noted_of x) same
+
+-- ---- what is left of the first entry
+
+pub rest-filled : (xs ys : List Item) → xs ≢ []
+    → ((item : Item) (later : List Item) → xs ≡ item ∷ later → (ys ≡ later) × (later ≢ [])) → ys ≢ []
+rest-filled [] ys some left = absurd (some refl)
+rest-filled (x ∷ xs) ys some left = λ e. (left x xs refl).1 (sym (left x xs refl).0 ∙ e)
+
+-- the first item is the first entry's
+pub front-item : (xs ys : List Item) (item : Item) (later : List Item) → xs ≢ [] → xs ++ ys ≡ item ∷ later
+    → (rest : List Item) × (xs ≡ item ∷ rest)
+front-item [] ys item later some at = absurd (some refl)
+front-item (x ∷ xs) ys item later some at =
+    let same : x ≡ item = cc in
+    (xs, ap (λ (y : Item). y ∷ xs) same)
+
+-- the entries behind the first
+pub first-filled : (front : Option Entry) (later : List Entry) (e : Entry) → front ≡ Some e
+    → AreFilled (entries_in front later) → (items_of e ≢ []) × AreFilled later
+first-filled None later e is filled = cc
+first-filled (Some f) later e is filled =
+    let same : f ≡ e = cc in
+    (subst (λ (g : Entry). items_of g ≢ []) same filled.0, filled.1)

@@ -51,7 +51,7 @@ unasked-as port group f g ms same = ap (λ (h : ℕ → Option Request). unasked
 
 module _ (port group : ℕ) (joined : Bool) (ms ns : List (Lent ℕ)) (f g g' : ℕ → Option Request)
     (h h' h'' u u' u'' : Option (List Item)) (one : HaveCome port group joined ms f g h h' u u') where
-  both-come : HaveCome port group joined ns g g' h' h'' u' u'' → HaveCome port group joined (ms ++ ns) f g' h h'' u u''
+  pub both-come : HaveCome port group joined ns g g' h' h'' u' u'' → HaveCome port group joined (ms ++ ns) f g' h h'' u u''
   both-come two = record {
     requests = λ q. two.requests q ∙ ap (λ (o : Option Request). after_all port group ns q o) (one.requests q)
         ∙ sym (after-both port group ms ns q (f q));

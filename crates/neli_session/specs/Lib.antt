@@ -2,6 +2,7 @@ pub mod Messages
 pub mod Waiting
 pub mod Lines
 pub mod Requests
+pub mod Noted
 pub mod Sessions
 pub mod Readiness
 pub mod Mails
@@ -10,4 +11,5 @@ pub mod Words
 pub mod Happenings
 pub mod Histories
 pub mod Verdicts
+pub mod Runs
 pub mod Freshness

@@ -1,5 +1,5 @@
 -- What waits for a reader: messages and losses, in order.
-use Rattle.std.specs.Prelude.{◌≢◌, ⊤, ℕ, List, [], ◌∷◌, map, Result, Ok, Err}
+use Rattle.std.specs.Prelude.{◌≡◌, ◌≢◌, ⊤, ℕ, List, [], ◌∷◌, map, Option, Some, None, Result, Ok, Err}
 use Rattle.std.specs.List.{flat_map}
 use Rattle.neli_lent.specs.Messages.{Lent, message_view}
 use Rattle.neli_lent.specs.declared.message.LentMessage.{LentMessage}
@@ -23,6 +23,16 @@ items_of (entry.Loss l) = Err l ∷ []
 -- all entries' items, in order
 abbrev pub all_items : List Entry → List Item
 all_items es = flat_map items_of es
+
+-- the entries of a queue: the first, and those after it
+abbrev pub entries_in : Option Entry → List Entry → List Entry
+entries_in None later = later
+entries_in (Some e) later = e ∷ later
+
+-- where there is no first entry, there is none after it
+abbrev pub IsFronted : Option Entry → List Entry → Type 0
+IsFronted None later = later ≡ []
+IsFronted (Some e) later = ⊤
 
 -- no entry is empty
 abbrev pub AreFilled : List Entry → Type 0

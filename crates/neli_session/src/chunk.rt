@@ -1,10 +1,12 @@
 //! Consecutive messages of one reader.
 
-ghost use Rattle.std.specs.Prelude.{◌≡◌, ◌≤◌, ◌↔◌, ◌∷◌, ℕ, List, [], IfOk, IfSome, IsNone, IsTrue, drop, length};
+ghost use Rattle.std.specs.Prelude.{◌≡◌, ◌≤◌, ◌↔◌, ◌∷◌, ℕ, List, [], IfOk, IfSome, IsNone, IsTrue, Ok, drop, length};
 ghost use Rattle.neli_reader.specs.Cuts.{message_before};
 ghost use Rattle.neli_lent.specs.Messages.{Lent, message_view, messages_in};
 ghost use Rattle.neli_session.specs.Messages.{IsWhole, messages_of};
+ghost use Rattle.neli_session.specs.Noted.{noted_of};
 
+use crate::noted::Noted;
 use neli_lent::LentMessage;
 use neli_wire::{Cursor, NoMemory};
 use std::alloc::Global;
@@ -25,6 +27,15 @@ fn message_at(bytes: &[u8], place: usize) -> Option<(LentMessage<'_, u16>, usize
         return Some((message, cursor.position()));
     }
     None
+}
+
+/// Whether no message is at a place of whole messages.
+fn is_end(bytes: &[u8], place: usize) -> bool
+    requires within { place ≤ length bytes.now }
+    requires whole { IsWhole (drop place bytes.now) }
+    ensures { IsTrue result ↔ (messages_of (drop place bytes.now) ≡ []) }
+{
+    place == bytes.len()
 }
 
 /// Messages one after the other, in one buffer: those from a place on.
@@ -73,15 +84,19 @@ impl Chunk {
         }
     }
 
-    /// Goes past the first message, if there is one, and returns whether none is left.
-    pub(crate) fn pass(&mut self) -> bool
+    /// Goes past the first message, if there is one; returns what is noted of it, and whether none is left.
+    pub(crate) fn pass(&mut self) -> (Noted, bool)
         ensures passed { (m : Lent ℕ) (later : List (Lent ℕ)) → self.old ≡ m ∷ later
-            → self.new ≡ later }
-        ensures empty { IsTrue result ↔ (self.new ≡ []) }
+            → (self.new ≡ later) × (result.0 ≡ noted_of (Ok m)) }
+        ensures empty { IsTrue result.1 ↔ (self.new ≡ []) }
     {
-        if let Some((_, end)) = message_at(&self.bytes, self.place) {
-            self.place = end;
+        match message_at(&self.bytes, self.place) {
+            None => (Noted::nothing(), true),
+            Some((message, end)) => {
+                let noted = Noted::of_message(&message);
+                self.place = end;
+                (noted, is_end(&self.bytes, end))
+            }
         }
-        message_at(&self.bytes, self.place).is_none()
     }
 }

@@ -1,6 +1,6 @@
 //! The line of the readers that have something to read.
 
-ghost use Rattle.std.specs.Prelude.{◌≡◌, ◌++◌, ◌∷◌, ◌||◌, ◌==◌, ℕ, List, [], false, true, Some, None, if◌then◌else◌, OnErr, OnOk, length};
+ghost use Rattle.std.specs.Prelude.{◌≡◌, ◌++◌, ◌∷◌, ◌||◌, ◌==◌, ℕ, List, [], false, true, Some, None, if◌then◌else◌, IsTrue, OnErr, OnOk, length};
 ghost use Rattle.neli_session.specs.Lines.{end_with, first_in, has_place, is_in, link_at, link_if, link_of, with_after, with_before, without};
 
 use indexmap::IndexMap;
@@ -175,6 +175,16 @@ impl Line {
         };
         set_after(&mut self.links, &mut self.first, link.before, link.after);
         set_before(&mut self.links, &mut self.last, link.after, link.before);
+    }
+
+    /// Whether a number is the last in line.
+    pub(crate) fn is_last(&self, number: u32) -> bool
+        ensures last { IsTrue result → without number self.now.order ++ number ∷ [] ≡ self.now.order }
+    {
+        match self.last {
+            None => false,
+            Some(last) => last == number,
+        }
     }
 
     /// The first number in line.

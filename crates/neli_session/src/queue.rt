@@ -1,11 +1,13 @@
 //! What waits for a reader.
 
-ghost use Rattle.std.specs.Prelude.{◌≡◌, ◌≢◌, ◌∷◌, ◌++◌, List, [], Err, None, IfSome, IsNone, OnErr, OnOk, IsTrue, ◌↔◌};
+ghost use Rattle.std.specs.Prelude.{◌≡◌, ◌≢◌, ◌∷◌, ◌++◌, List, [], Err, None, Some, IfSome, IsNone, OnErr, OnOk, IsTrue, false, true, ◌↔◌};
 ghost use Rattle.neli_session.specs.Messages.{IsWhole, messages_of};
-ghost use Rattle.neli_session.specs.Waiting.{Item, as_items, items_of, lent_item};
+ghost use Rattle.neli_session.specs.Noted.{noted_of};
+ghost use Rattle.neli_session.specs.Waiting.{IsFronted, Item, as_items, entries_in, items_of, lent_item};
 
 use crate::Loss;
 use crate::chunk::Chunk;
+use crate::noted::Noted;
 use neli_lent::LentMessage;
 use neli_wire::NoMemory;
 use std::alloc::Global;
@@ -19,43 +21,81 @@ pub(crate) enum Entry {
     Loss(Loss),
 }
 
-/// What is left of an entry once its first item is passed, if anything is.
-fn rest_of(entry: Entry) -> Option<Entry>
-    ensures none { result ≡ None → (item : Item) (later : List Item)
-        → items_of entry ≡ item ∷ later → later ≡ [] }
-    ensures some { IfSome result (λ rest. (items_of rest ≢ [])
-        × ((item : Item) (later : List Item) → items_of entry ≡ item ∷ later
-        → items_of rest ≡ later)) }
+/// Goes past the first item of an entry; returns what is noted of it, and whether none is left.
+fn pass_in(entry: &mut Entry) -> (Noted, bool)
+    ensures noted { (item : Item) (later : List Item) → items_of entry.old ≡ item ∷ later
+        → result.0 ≡ noted_of item }
+    ensures last { (item : Item) (later : List Item) → items_of entry.old ≡ item ∷ later
+        → result.1 ≡ true → later ≡ [] }
+    ensures rest { (item : Item) (later : List Item) → items_of entry.old ≡ item ∷ later
+        → result.1 ≡ false → (items_of entry.new ≡ later) × (later ≢ []) }
 {
     match entry {
-        Entry::Loss(_) => None,
-        Entry::Messages(chunk) => {
-            let mut chunk = chunk;
-            if chunk.pass() {
-                None
-            } else {
-                Some(Entry::Messages(chunk))
-            }
-        }
+        Entry::Loss(loss) => (Noted::of_loss(*loss), true),
+        Entry::Messages(chunk) => chunk.pass(),
     }
 }
 
-/// Messages and losses in order.
+/// Appends an entry. Refused only if memory runs out; then nothing changes.
+fn push(
+    front: &mut Option<Entry>,
+    later: &mut VecDeque<Entry>,
+    entry: Entry,
+) -> Result<(), NoMemory>
+    requires { IsFronted front.old later.old.items }
+    ensures fronted { IsFronted front.new later.new.items }
+    ensures pushed { OnOk result (entries_in front.new later.new.items
+        ≡ entries_in front.old later.old.items ++ entry ∷ []) }
+    ensures unchanged { OnErr result (entries_in front.new later.new.items
+        ≡ entries_in front.old later.old.items) }
+{
+    if front.is_none() {
+        *front = Some(entry);
+        return Ok(());
+    }
+    later.push_back(entry)?;
+    Ok(())
+}
+
+/// Removes the last entry.
+fn pop(front: &mut Option<Entry>, later: &mut VecDeque<Entry>)
+    requires { IsFronted front.old later.old.items }
+    ensures fronted { IsFronted front.new later.new.items }
+    ensures popped { (es : List Entry) (e : Entry) → entries_in front.old later.old.items ≡ es ++ e ∷ []
+        → entries_in front.new later.new.items ≡ es }
+{
+    if let Some(_) = later.pop_back() {
+        return;
+    }
+    *front = None;
+}
+
+/// Removes the first entry.
+fn advance(front: &mut Option<Entry>, later: &mut VecDeque<Entry>)
+    ensures fronted { IsFronted front.new later.new.items }
+    ensures rest { entries_in front.new later.new.items ≡ later.old.items }
+{
+    *front = later.pop_front();
+}
+
+/// Messages and losses in order. The first entry has a place of its own: where no other waits, the queue needs no memory
+/// but for its messages.
 #[derive(Drop)]
 pub(crate) struct Queue {
     alloc: Global,
-    entries: VecDeque<Entry>,
+    front: Option<Entry>,
+    later: VecDeque<Entry>,
 }
 
 impl Model for Queue {
     ghost use Rattle.std.specs.Prelude.{List};
-    ghost use Rattle.neli_session.specs.Waiting.{AreFilled, Item, all_items};
+    ghost use Rattle.neli_session.specs.Waiting.{AreFilled, IsFronted, Item, all_items, entries_in};
 
     ghost Value = { List Item };
 
-    ghost view = { λ q. all_items q.entries.items };
+    ghost view = { λ q. all_items (entries_in q.front q.later.items) };
 
-    ghost invariant = { λ q. AreFilled q.entries.items };
+    ghost invariant = { λ q. IsFronted q.front q.later.items × AreFilled (entries_in q.front q.later.items) };
 }
 
 impl Queue {
@@ -65,7 +105,8 @@ impl Queue {
     {
         Queue {
             alloc,
-            entries: VecDeque::new(alloc),
+            front: None,
+            later: VecDeque::new(alloc),
         }
     }
 
@@ -76,7 +117,7 @@ impl Queue {
         ensures unchanged { OnErr result (self.new ≡ self.old) }
     {
         let chunk = Chunk::new(self.alloc, bytes)?;
-        self.entries.push_back(Entry::Messages(chunk))?;
+        push(&mut self.front, &mut self.later, Entry::Messages(chunk))?;
         Ok(())
     }
 
@@ -88,9 +129,9 @@ impl Queue {
         ensures unchanged { OnErr result ((self.new ≡ self.old) × (other.new ≡ other.old)) }
     {
         let chunk = Chunk::new(self.alloc, bytes)?;
-        self.entries.push_back(Entry::Messages(chunk))?;
+        push(&mut self.front, &mut self.later, Entry::Messages(chunk))?;
         if other.add(bytes).is_err() {
-            let _ = self.entries.pop_back();
+            pop(&mut self.front, &mut self.later);
             return Err(NoMemory);
         }
         Ok(())
@@ -101,7 +142,7 @@ impl Queue {
         ensures added { OnOk result (self.new ≡ self.old ++ Err loss ∷ []) }
         ensures unchanged { OnErr result (self.new ≡ self.old) }
     {
-        self.entries.push_back(Entry::Loss(loss))?;
+        push(&mut self.front, &mut self.later, Entry::Loss(loss))?;
         Ok(())
     }
 
@@ -111,9 +152,9 @@ impl Queue {
         ensures other { OnOk result (other.new ≡ other.old ++ Err loss ∷ []) }
         ensures unchanged { OnErr result ((self.new ≡ self.old) × (other.new ≡ other.old)) }
     {
-        self.entries.push_back(Entry::Loss(loss))?;
+        push(&mut self.front, &mut self.later, Entry::Loss(loss))?;
         if other.add_loss(loss).is_err() {
-            let _ = self.entries.pop_back();
+            pop(&mut self.front, &mut self.later);
             return Err(NoMemory);
         }
         Ok(())
@@ -123,14 +164,15 @@ impl Queue {
     pub(crate) fn clear(&mut self)
         ensures { self.new ≡ [] }
     {
-        self.entries.clear();
+        self.front = None;
+        self.later.clear();
     }
 
     /// Whether nothing waits.
     pub(crate) fn is_empty(&self) -> bool
         ensures { IsTrue result ↔ (self.now ≡ []) }
     {
-        match self.entries.front() {
+        match &self.front {
             None => true,
             Some(_) => false,
         }
@@ -142,7 +184,7 @@ impl Queue {
         ensures some { IfSome result
             (λ item. (later : List Item) × (self.now ≡ lent_item item ∷ later)) }
     {
-        match self.entries.front() {
+        match &self.front {
             None => None,
             Some(Entry::Messages(chunk)) => match chunk.first() {
                 None => None,
@@ -152,16 +194,19 @@ impl Queue {
         }
     }
 
-    /// Goes past the first item, if there is one.
-    pub(crate) fn pass(&mut self)
+    /// Goes past the first item, if there is one, and returns what is noted of it.
+    pub(crate) fn pass(&mut self) -> Option<Noted>
         ensures passed { (item : Item) (later : List Item) → self.old ≡ item ∷ later
-            → self.new ≡ later }
-        ensures none { self.old ≡ [] → self.new ≡ [] }
+            → (self.new ≡ later) × (result ≡ Some (noted_of item)) }
+        ensures none { self.old ≡ [] → (self.new ≡ []) × (result ≡ None) }
     {
-        if let Some(entry) = self.entries.pop_front() {
-            if let Some(rest) = rest_of(entry) {
-                self.entries.push_front_reserved(rest);
-            }
+        let Some(entry) = &mut self.front else {
+            return None;
+        };
+        let (noted, is_last) = pass_in(entry);
+        if is_last {
+            advance(&mut self.front, &mut self.later);
         }
+        Some(noted)
     }
 }

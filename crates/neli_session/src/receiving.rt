@@ -73,8 +73,9 @@ impl Session {
                     Err(_) => Err(Untaken { taken: place }),
                 };
             };
-            match self.take_in(group, is_joined, &message, span) {
-                Ok(()) => place += span.len(),
+            match self.take_in(group, is_joined, &message, span.len(), &datagram[place..]) {
+                Ok(None) => place += span.len(),
+                Ok(Some(taken)) => place += taken,
                 Err(_) => return Err(Untaken { taken: place }),
             }
         }

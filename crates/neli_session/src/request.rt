@@ -1,19 +1,23 @@
 //! A request: what comes for it, until nothing more can come.
 
-ghost use Rattle.std.specs.Prelude.{◌≡◌, ◌++◌, ◌∷◌, [], None, Ok, Some, if◌then◌else◌, OnErr, OnOk, true, false, option_map};
+ghost use Rattle.std.specs.Prelude.{◌≡◌, ◌≤◌, ◌<◌, ◌++◌, ◌∷◌, ◌||◌, [], None, Ok, Some, if◌then◌else◌, IfOk, OnErr, OnOk, true, false, length, option_map, take};
 ghost use Rattle.neli_lent.specs.Messages.{message_view};
-ghost use Rattle.neli_session.specs.Messages.{IsMessage};
+ghost use Rattle.neli_session.specs.Messages.{IsMessage, messages_of};
 ghost use Rattle.neli_session.specs.Readiness.{is_ready};
-ghost use Rattle.neli_session.specs.Waiting.{lent_item};
+ghost use Rattle.neli_session.specs.Noted.{noted_of};
+ghost use Rattle.neli_session.specs.Waiting.{Item, lent_item};
 ghost use Rattle.neli_session.specs.Requests.{answers, changed, end_verdict, ends, heard, is_awaited};
-ghost use Rattle.neli_session.specs.Requests.{is_marked, is_over, item_verdict, left_at, lost, message_verdict, next_item, passed};
+ghost use Rattle.neli_session.specs.Requests.{is_marked, is_over, left_at, lost, message_verdict, next_item, passed, verdict_with};
 ghost use Rattle.neli_session.specs.Requests.{sent_at, settled, unsent, verdict_of};
+ghost use Rattle.neli_session.specs.Runs.{HasRun, heard_run};
 ghost use Rattle.neli_session.specs.Sends.{is_running};
 ghost use Rattle.neli_session.specs.Sessions.{closed, has_ended, queued};
 
 use crate::Loss;
 use crate::change::Change;
+use crate::noted::Noted;
 use crate::queue::Queue;
+use crate::run::{Run, ends, run_of};
 use bitflags::Flags;
 use neli_answers::Answering;
 use neli_consts::NlmF;
@@ -122,7 +126,7 @@ pub struct Request {
 }
 
 /// The verdict by a message.
-fn message_verdict(message: &LentMessage<'_, u16>) -> Verdict
+pub(crate) fn message_verdict(message: &LentMessage<'_, u16>) -> Verdict
     ensures { result ≡ message_verdict (message_view message.now) }
 {
     let code = message.code();
@@ -132,26 +136,6 @@ fn message_verdict(message: &LentMessage<'_, u16>) -> Verdict
         Verdict::Pending
     } else {
         Verdict::Failed(code)
-    }
-}
-
-/// The verdict by an item.
-fn item_verdict(item: &Result<LentMessage<'_, u16>, Loss>) -> Verdict
-    ensures { result ≡ item_verdict (lent_item item.now) }
-{
-    match item {
-        Ok(message) => message_verdict(message),
-        Err(loss) => Verdict::Lost(*loss),
-    }
-}
-
-/// Whether the kernel marked an item as filtered.
-fn is_marked(item: &Result<LentMessage<'_, u16>, Loss>) -> bool
-    ensures { result ≡ is_marked (lent_item item.now) }
-{
-    match item {
-        Ok(message) => message.nl_flags().contains(NlmF::DUMP_FILTERED),
-        Err(_) => false,
     }
 }
 
@@ -194,24 +178,33 @@ impl Request {
         self.stage.is_awaited() && (group == 0 || self.echoes)
     }
 
-    /// Takes in a message of its answer, which these bytes are. Refused only if memory runs out; then nothing changes.
+    /// Takes in the run of its answer at the front of bytes, whose first message is this one, of so many bytes. Refused
+    /// only if memory runs out; then nothing changes.
     pub(crate) fn hear(
         &mut self,
         message: &LentMessage<'_, u16>,
-        span: &[u8],
-    ) -> Result<(), NoMemory>
-        requires { IsMessage span.now (message_view message.now) }
-        ensures heard { OnOk result (self.new ≡ heard (message_view message.now) self.old) }
+        first: usize,
+        bytes: &[u8],
+    ) -> Result<Run, NoMemory>
+        requires within { first ≤ length bytes.now }
+        requires some { 0 < first }
+        requires first { IsMessage (take first bytes.now) (message_view message.now) }
+        ensures run { IfOk result (λ run. HasRun self.old.answering (message_view message.now) bytes.now run) }
+        ensures heard { IfOk result (λ run. self.new
+            ≡ heard_run (messages_of (take run.length bytes.now)) run.ended self.old) }
         ensures unchanged { OnErr result (self.new ≡ self.old) }
     {
+        let run = run_of(self.answering, message, first, bytes);
         if self.is_open && self.loss.is_none() {
-            self.waiting.add(span)?;
+            self.waiting.add(&bytes[..run.length])?;
         }
-        self.note(message);
-        Ok(())
+        if run.ended {
+            self.stage = Stage::Ended;
+        }
+        Ok(run)
     }
 
-    /// Takes in such a message, and appends it to a queue too. Refused only if memory runs out; then nothing changes.
+    /// Takes in a message of its answer, which these bytes are, and appends it to a queue too. Refused only if memory runs out; then nothing changes.
     pub(crate) fn hear_with(
         &mut self,
         queue: &mut Queue,
@@ -240,8 +233,7 @@ impl Request {
               else self.old.stage;
         } }
     {
-        let (nl_type, flags) = (*message.nl_type(), *message.nl_flags());
-        if self.answering.ends_with(nl_type, flags, message.code()) {
+        if ends(self.answering, message) {
             self.stage = Stage::Ended;
         }
     }
@@ -268,22 +260,32 @@ impl Request {
         }
     }
 
+    /// Notes what is noted of an item that is read.
+    fn take_note(&mut self, noted: Noted)
+        ensures { (item : Item) → noted ≡ noted_of item → self.new ≡ record self.old {
+          noted = verdict_with self.old.noted item;
+          is_filtered = is_marked item || self.old.is_filtered;
+        } }
+    {
+        self.is_filtered = noted.is_filtered || self.is_filtered;
+        if self.noted == Verdict::Pending {
+            self.noted = noted.verdict;
+        }
+    }
+
     /// Goes past the next item, if there is one.
     pub(crate) fn pass(&mut self)
         ensures { self.new ≡ passed self.old }
     {
-        let Some(item) = self.next() else {
+        if let Some(noted) = self.waiting.pass() {
+            self.take_note(noted);
             return;
-        };
-        let by_item = item_verdict(&item);
-        self.is_filtered = is_marked(&item) || self.is_filtered;
-        if self.noted == Verdict::Pending {
-            self.noted = by_item;
         }
-        if self.waiting.is_empty() {
-            self.is_told = true;
-        } else {
-            self.waiting.pass();
+        if let Some(loss) = self.loss {
+            if !self.is_told {
+                self.is_told = true;
+                self.take_note(Noted::of_loss(loss));
+            }
         }
     }
 

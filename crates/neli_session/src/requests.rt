@@ -1,12 +1,13 @@
 //! The requests whose numbers are in use, and the line of those that have something to read.
 
 ghost use Rattle.std.specs.Prelude.{◌≡◌, ◌<◌, ◌^◌, ◌++◌, ◌∷◌, ◌&&◌, ◌==◌, ℕ, [], Ok, None, Some, IfOk, IfSome, IsErrOf, IsNone, OnErr, OnOk, false, true, not, if◌then◌else◌};
-ghost use Rattle.std.specs.Prelude.{is_some, length, nat_eq, option_copied};
+ghost use Rattle.std.specs.Prelude.{◌≤◌, is_some, length, nat_eq, option_copied, take};
 ghost use Rattle.neli_lent.specs.Messages.{message_view};
 ghost use Rattle.neli_session.specs.Lines.{first_in, has_place, is_in, without};
-ghost use Rattle.neli_session.specs.Messages.{IsMessage};
+ghost use Rattle.neli_session.specs.Messages.{IsMessage, IsWhole, messages_of};
 ghost use Rattle.neli_session.specs.Readiness.{AreAway, IsTurn, line_among, line_by, placed_after, read_in, ready_at, settled_in};
 ghost use Rattle.neli_session.specs.Requests.{of_number};
+ghost use Rattle.neli_session.specs.Runs.{AreTaken, HearsRun};
 ghost use Rattle.neli_session.specs.Sends.{first_taken, with_entries, with_entry, without_entries};
 ghost use Rattle.neli_session.specs.Sessions.{after_message, among, at, closed_at, kept, passed_at, takes, when};
 
@@ -15,6 +16,7 @@ use crate::entry::Entry;
 use crate::line::Line;
 use crate::queue::Queue;
 use crate::request::Request;
+use crate::run::Run;
 use indexmap::IndexMap;
 use neli_lent::LentMessage;
 use neli_wire::NoMemory;
@@ -64,22 +66,30 @@ fn forget(requests: &mut IndexMap<u32, Request>, number: u32) -> bool
     !is_done
 }
 
-/// Takes in a message for a group, or for none, by the request with its number, if it answers that. Refused only if
-/// memory runs out; then nothing changes.
+/// Takes in a message for a group, or for none, by the request with its number, if it answers that, and with it the run
+/// that begins with it at the front of bytes. Refused only if memory runs out; then nothing changes.
 fn hear(
     requests: &mut IndexMap<u32, Request>,
     group: u32,
     message: &LentMessage<'_, u16>,
-    span: &[u8],
-) -> Result<Option<Turn>, NoMemory>
-    requires { IsMessage span.now (message_view message.now) }
-    ensures taken { IfOk result (λ t. is_some t
-        ≡ takes group (of_number (message_view message.now).0.sequence_number requests.old.entries)) }
-    ensures turn { IfOk result (λ t. IfSome t
-        (IsTurn (of_number (message_view message.now).0.sequence_number requests.old.entries)
-        (of_number (message_view message.now).0.sequence_number requests.new.entries))) }
-    ensures heard { OnOk result ((q : ℕ) → of_number q requests.new.entries
+    first: usize,
+    bytes: &[u8],
+) -> Result<Option<(Turn, Run)>, NoMemory>
+    requires within { first ≤ length bytes.now }
+    requires some { 0 < first }
+    requires first { IsMessage (take first bytes.now) (message_view message.now) }
+    ensures untaken { IfOk result (λ t. IsNone t
+        → takes group (of_number (message_view message.now).0.sequence_number requests.old.entries) ≡ false) }
+    ensures alone { IfOk result (λ t. IsNone t → (q : ℕ) → of_number q requests.new.entries
         ≡ after_message group (message_view message.now) q (of_number q requests.old.entries)) }
+    ensures turn { IfOk result (λ t. IfSome t (λ r.
+        IsTurn (of_number (message_view message.now).0.sequence_number requests.old.entries)
+        (of_number (message_view message.now).0.sequence_number requests.new.entries) r.0)) }
+    ensures heard { IfOk result (λ t. IfSome t (λ r. HearsRun group (message_view message.now) bytes.now r.1
+        (of_number (message_view message.now).0.sequence_number requests.old.entries)
+        (of_number (message_view message.now).0.sequence_number requests.new.entries))) }
+    ensures others { (q : ℕ) → (nat_eq (message_view message.now).0.sequence_number q ≡ false)
+        → of_number q requests.new.entries ≡ of_number q requests.old.entries }
     ensures unchanged { OnErr result ((q : ℕ) → of_number q requests.new.entries
         ≡ of_number q requests.old.entries) }
 {
@@ -91,18 +101,20 @@ fn hear(
                 return Ok(None);
             }
             let was_ready = request.is_ready();
-            request.hear(message, span)?;
+            let run = request.hear(message, first, bytes)?;
             let is_ready = request.is_ready();
-            Ok(Some(Turn {
+            let turn = Turn {
                 was_ready,
                 is_ready,
                 stays: forget(requests, number),
-            }))
+            };
+            Ok(Some((turn, run)))
         }
     }
 }
 
-/// The same of a message that a queue gets in any case.
+/// Takes in a message for a group, by the request with its number, if it answers that, and appends it to a queue in any
+/// case. Refused only if memory runs out; then nothing changes.
 fn hear_with(
     requests: &mut IndexMap<u32, Request>,
     queue: &mut Queue,
@@ -240,6 +252,9 @@ fn settle_read(line: &mut Line, number: u32, turn: Turn)
     ensures order { line.new.order ≡ read_in turn.is_ready number line.old.order }
     ensures places { (q : ℕ) → has_place q line.new.places ≡ has_place q line.old.places }
 {
+    if turn.is_ready && line.is_last(number) {
+        return;
+    }
     shift(line, number, turn.was_ready, false);
     shift(line, number, false, turn.is_ready);
 }
@@ -298,34 +313,43 @@ impl Requests {
         self.line.first()
     }
 
-    /// Takes in a message for a group, or for none, by the request with its number, if it answers that; returns
-    /// whether it does. Refused only if memory runs out; then nothing changes.
+    /// Takes in a message for a group, or for none, by the request with its number, if it answers that, and with it the
+    /// run that begins with it at the front of bytes; returns the number of their bytes. Refused only if memory runs out;
+    /// then nothing changes.
     pub(crate) fn hear(
         &mut self,
         group: u32,
         message: &LentMessage<'_, u16>,
-        span: &[u8],
-    ) -> Result<bool, NoMemory>
-        requires { IsMessage span.now (message_view message.now) }
-        ensures taken { IfOk result (λ taken. taken
-            ≡ takes group (at self.old (message_view message.now).0.sequence_number)) }
-        ensures heard { OnOk result ((q : ℕ) → at self.new q
+        first: usize,
+        bytes: &[u8],
+    ) -> Result<Option<usize>, NoMemory>
+        requires within { first ≤ length bytes.now }
+        requires some { 0 < first }
+        requires first { IsMessage (take first bytes.now) (message_view message.now) }
+        ensures untaken { IfOk result (λ o. IsNone o
+            → takes group (at self.old (message_view message.now).0.sequence_number) ≡ false) }
+        ensures alone { IfOk result (λ o. IsNone o → (q : ℕ) → at self.new q
             ≡ after_message group (message_view message.now) q (at self.old q)) }
-        ensures line { OnOk result (self.new.line
+        ensures line_alone { IfOk result (λ o. IsNone o → self.new.line
             ≡ line_by group (message_view message.now) (at self.old) self.old.line) }
+        ensures run { IfOk result (λ o. IfSome o (λ taken. (0 < taken) × (taken ≤ length bytes.now)
+            × IsWhole (take taken bytes.now)
+            × AreTaken group (message_view message.now) (messages_of (take taken bytes.now))
+            (at self.old) (at self.new) self.old.line self.new.line)) }
         ensures unchanged { OnErr result (((q : ℕ) → at self.new q ≡ at self.old q)
             × (self.new.line ≡ self.old.line)) }
     {
-        match hear(&mut self.requests, group, message, span)? {
-            None => Ok(false),
-            Some(turn) => {
+        match hear(&mut self.requests, group, message, first, bytes)? {
+            None => Ok(None),
+            Some((turn, run)) => {
                 settle(&mut self.line, *message.nl_seq(), turn);
-                Ok(true)
+                Ok(Some(run.length))
             }
         }
     }
 
-    /// The same of a message that a queue gets in any case.
+    /// Takes in a message for a group, by the request with its number, if it answers that, and appends it to a queue in
+    /// any case; returns whether it does. Refused only if memory runs out; then nothing changes.
     pub(crate) fn hear_with(
         &mut self,
         queue: &mut Queue,

@@ -1,10 +1,10 @@
 //! The session.
 
-ghost use Rattle.std.specs.Prelude.{◌≡◌, ◌∷◌, ℕ, true, false, Err, None, Some, is_some, [], OnErr, OnOk, not, ◌==◌};
+ghost use Rattle.std.specs.Prelude.{◌≡◌, ◌≤◌, ◌<◌, ◌∷◌, ℕ, IfOk, IfSome, IsNone, length, take, true, false, Err, None, Some, is_some, [], OnErr, OnOk, not, ◌==◌, ◌&&◌};
 ghost use Rattle.neli_lent.specs.Messages.{message_view};
-ghost use Rattle.neli_session.specs.Messages.{IsMessage};
-ghost use Rattle.neli_session.specs.Readiness.{line_after, line_among};
-ghost use Rattle.neli_session.specs.Sessions.{after, among, at, gains, is_heard, is_unasked, kept_queue, share, when};
+ghost use Rattle.neli_session.specs.Messages.{IsMessage, IsWhole, messages_of};
+ghost use Rattle.neli_session.specs.Readiness.{line_after, line_after_all, line_among};
+ghost use Rattle.neli_session.specs.Sessions.{HaveCome, after, among, at, gains, is_heard, is_own, is_unasked, kept_queue, share, when};
 ghost use Rattle.neli_session.specs.Sends.{SameSending};
 
 use crate::Loss;
@@ -133,26 +133,38 @@ impl Session {
         self.multicast = None;
     }
 
-    /// Takes in a message of a group, or of none, which is 0. Refused only if memory runs out; then nothing changes.
+    /// Takes in a message of a group, or of none, which is 0, at the front of bytes, of so many. Where a request takes it,
+    /// the run that begins with it is taken in; returns the number of its bytes, and none where the message came alone.
+    /// Refused only if memory runs out; then nothing changes.
     pub(crate) fn take_in(
         &mut self,
         group: u32,
         is_joined: bool,
         message: &LentMessage<'_, u16>,
-        span: &[u8],
-    ) -> Result<(), NoMemory>
-        requires { IsMessage span.now (message_view message.now) }
-        ensures requests { OnOk result ((q : ℕ) → at self.new.requests q
+        first: usize,
+        bytes: &[u8],
+    ) -> Result<Option<usize>, NoMemory>
+        requires within { first ≤ length bytes.now }
+        requires some { 0 < first }
+        requires first { IsMessage (take first bytes.now) (message_view message.now) }
+        ensures requests { IfOk result (λ o. IsNone o → (q : ℕ) → at self.new.requests q
             ≡ after self.old.port group (message_view message.now) q (at self.old.requests q)) }
-        ensures multicast { OnOk result (self.new.multicast
+        ensures multicast { IfOk result (λ o. IsNone o → self.new.multicast
             ≡ gains (share (is_heard self.old.port group is_joined (message_view message.now))
             (message_view message.now)) self.old.multicast) }
-        ensures unasked { OnOk result (self.new.unasked
+        ensures unasked { IfOk result (λ o. IsNone o → self.new.unasked
             ≡ gains (share (is_unasked self.old.port group (at self.old.requests)
             (message_view message.now)) (message_view message.now)) self.old.unasked) }
-        ensures line { OnOk result (self.new.requests.line
+        ensures line { IfOk result (λ o. IsNone o → self.new.requests.line
             ≡ line_after self.old.port group (message_view message.now) (at self.old.requests)
             self.old.requests.line) }
+        ensures run { IfOk result (λ o. IfSome o (λ taken. (0 < taken) × (taken ≤ length bytes.now)
+            × IsWhole (take taken bytes.now)
+            × HaveCome self.old.port group is_joined (messages_of (take taken bytes.now))
+            (at self.old.requests) (at self.new.requests) self.old.multicast self.new.multicast
+            self.old.unasked self.new.unasked
+            × (self.new.requests.line ≡ line_after_all self.old.port group
+            (messages_of (take taken bytes.now)) (at self.old.requests) self.old.requests.line))) }
         ensures sending { SameSending self.old self.new }
         ensures unchanged { OnErr result (((q : ℕ) → at self.new.requests q ≡ at self.old.requests q)
             × (self.new.requests.line ≡ self.old.requests.line)
@@ -161,19 +173,61 @@ impl Session {
         let is_own = *message.nl_pid() == self.port;
         let is_heard = group != 0 && (!is_own || is_joined);
         if !is_own {
-            return self.take_in_other(group, message, span);
+            self.take_in_other(group, message, &bytes[..first])?;
+            return Ok(None);
         }
-        if is_heard {
-            if let Some(multicast) = &mut self.multicast {
-                self.requests.hear_with(multicast, group, message, span)?;
-                return Ok(());
-            }
+        if !is_heard {
+            return self.take_in_own(group, is_joined, message, first, bytes);
         }
-        let is_taken = self.requests.hear(group, message, span)?;
-        if group == 0 && !is_taken {
-            return add(&mut self.unasked, message, span);
+        if let Some(multicast) = &mut self.multicast {
+            self.requests
+                .hear_with(multicast, group, message, &bytes[..first])?;
+            return Ok(None);
         }
-        Ok(())
+        self.take_in_own(group, is_joined, message, first, bytes)
+    }
+
+    /// The same of a message with the session's port, which multicast does not get.
+    fn take_in_own(
+        &mut self,
+        group: u32,
+        is_joined: bool,
+        message: &LentMessage<'_, u16>,
+        first: usize,
+        bytes: &[u8],
+    ) -> Result<Option<usize>, NoMemory>
+        requires own { is_own self.old.port (message_view message.now) ≡ true }
+        requires unheard { (not (group == 0) && is_joined) ≡ true → self.old.multicast ≡ None }
+        requires within { first ≤ length bytes.now }
+        requires some { 0 < first }
+        requires first { IsMessage (take first bytes.now) (message_view message.now) }
+        ensures requests { IfOk result (λ o. IsNone o → (q : ℕ) → at self.new.requests q
+            ≡ after self.old.port group (message_view message.now) q (at self.old.requests q)) }
+        ensures unasked { IfOk result (λ o. IsNone o → self.new.unasked
+            ≡ gains (share (is_unasked self.old.port group (at self.old.requests)
+            (message_view message.now)) (message_view message.now)) self.old.unasked) }
+        ensures line { IfOk result (λ o. IsNone o → self.new.requests.line
+            ≡ line_after self.old.port group (message_view message.now) (at self.old.requests)
+            self.old.requests.line) }
+        ensures run { IfOk result (λ o. IfSome o (λ taken. (0 < taken) × (taken ≤ length bytes.now)
+            × IsWhole (take taken bytes.now)
+            × HaveCome self.old.port group is_joined (messages_of (take taken bytes.now))
+            (at self.old.requests) (at self.new.requests) self.old.multicast self.new.multicast
+            self.old.unasked self.new.unasked
+            × (self.new.requests.line ≡ line_after_all self.old.port group
+            (messages_of (take taken bytes.now)) (at self.old.requests) self.old.requests.line))) }
+        ensures multicast { self.new.multicast ≡ self.old.multicast }
+        ensures sending { SameSending self.old self.new }
+        ensures unchanged { OnErr result (((q : ℕ) → at self.new.requests q ≡ at self.old.requests q)
+            × (self.new.requests.line ≡ self.old.requests.line) × (self.new.unasked ≡ self.old.unasked)) }
+    {
+        if let Some(taken) = self.requests.hear(group, message, first, bytes)? {
+            return Ok(Some(taken));
+        }
+        if group == 0 {
+            add(&mut self.unasked, message, &bytes[..first])?;
+        }
+        Ok(None)
     }
 
     /// Notes a loss: the requests that are awaited, and the readers of multicast and of messages that answer no
