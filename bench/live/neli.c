@@ -74,7 +74,7 @@ static void hand_in(struct link *link, struct neli_router *router) {
     struct neli_received received;
     int32_t code;
     while ((code = link_receive(link, &received)) == NELI_WAITS)
-        if (link_wait(link, link_end_of_wait(link)) != NELI_OK) fail("the wait has ended");
+        if (link_wait(link, link_end_of_wait(link), false) != NELI_OK) fail("the wait has ended");
     if (code != NELI_OK || neli_router_datagram(router, link->room, received.length, NULL, 0) != NELI_OK)
         fail("nothing is received");
 }

@@ -198,12 +198,12 @@ fn a_recorded_dump_ends_where_its_answering_says(rt: HostRuntime) {
         let message = message.expect(&rt, "a message");
         let (nl_type, nl_flags) = (*message.nl_type(), *message.nl_flags());
         assert_eq!(rt;
-            dump.ends_with(nl_type, nl_flags),
+            dump.ends_with(nl_type, nl_flags, message.code()),
             count == 3,
             "message {count}"
         );
         assert!(rt;
-            !other.ends_with(nl_type, nl_flags),
+            !other.ends_with(nl_type, nl_flags, message.code()),
             "message {count}, with ACK"
         );
         count += 1;
