@@ -5,5 +5,6 @@ pub mod Lists
 pub mod Messages
 pub mod Named
 pub mod Refusals
+pub mod Requests
 pub mod Values
 pub mod laws

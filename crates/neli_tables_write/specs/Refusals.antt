@@ -4,7 +4,7 @@ use Rattle.neli_tables_walk.specs.Names.{name_text}
 use Rattle.neli_tables_write.specs.declared.why.Why.{Why}
 use Rattle.neli_tables_write.specs.declared.why.Why.TheVariants.{Memory, NoName, NoValue, OtherSort, Range}
 use Rattle.neli_tables_write.specs.declared.why.Why.TheVariants.{ZeroInside, NoAddress, NoDigits, TooLong}
-use Rattle.neli_tables_write.specs.declared.why.Why.TheVariants.{NoCase, IsNest, NoNest, TooDeep}
+use Rattle.neli_tables_write.specs.declared.why.Why.TheVariants.{NoCase, IsNest, NoNest, TooDeep, NoFamily}
 
 abbrev pub why_text : Why → List ℕ
 why_text Memory = codes "out of memory"
@@ -20,6 +20,7 @@ why_text NoCase = codes "nothing before it says what it is"
 why_text IsNest = codes "a nest"
 why_text NoNest = codes "no nest"
 why_text TooDeep = codes "nested too deep"
+why_text NoFamily = codes "the number of its family is not known"
 
 -- the nearest name, if there is one
 abbrev pub nearest_text : Option (List ℕ) → List ℕ

@@ -3,13 +3,28 @@
 use crate::asked::Part;
 use crate::attributes::{NESTED, NET_BYTEORDER, NUMBER};
 use crate::choice::case_of;
-use crate::json::{DEPTH, digits_bytes, integer_of, json_bytes, plain_digits};
+use crate::json::{DEPTH, Others, digits_bytes, integer_of, json_bytes, plain_digits};
 use crate::message::Message;
-use crate::{Integer, MAX_PAYLOAD, Why};
+use crate::{Integer, MAX_PAYLOAD, Refusal, Why};
 use neli_tables::{Kind, Table};
 use neli_tables_walk::MAX_DEPTH;
 use serde_json::Value;
 use std::alloc::Global;
+
+/// What an attribute with attributes in it is.
+#[derive(Clone, Copy)]
+enum Opened {
+    Nest,
+    Hops,
+}
+
+/// What was taken, or a refusal with the name of what it is about.
+pub(crate) fn named<'v>(taken: Result<(), Why>, name: &'v str) -> Result<(), (&'v str, Why)> {
+    match taken {
+        Ok(()) => Ok(()),
+        Err(why) => Err((name, why)),
+    }
+}
 
 /// Whether a member is true.
 fn holds(value: &Value, name: &str) -> bool {
@@ -30,32 +45,70 @@ pub(crate) fn number_in(value: &Value, name: &str) -> Result<Option<u64>, Why> {
     }
 }
 
+/// The name that an object of an attribute has; empty where it has none.
+fn name_of(item: &Value) -> &str {
+    match item.get("name") {
+        Some(name) => name.as_str().unwrap_or(""),
+        None => "",
+    }
+}
+
+/// The flags of an attribute's type field that an object has.
+fn flags_of(item: &Value) -> u16 {
+    let nested = if holds(item, "nested") { NESTED } else { 0 };
+    let order = if holds(item, "net_byteorder") {
+        NET_BYTEORDER
+    } else {
+        0
+    };
+    nested | order
+}
+
 impl<'w, 't> Message<'w, 't> {
-    /// The message of the line at this place, as an object of JSON has it: the form that `neli_show json` prints.
+    /// The message of the line at this place, as an object of JSON has it: the form that `neli_show json` prints, or
+    /// with an object of names in place of the array of its attributes (docs/WRITING.md).
     ///
-    /// Refused as the calls that write such a message by names are.
+    /// Refused as the calls that write such a message by names are, with the names of the members that it is about.
     pub fn from_json(
         alloc: Global,
         table: &'w Table<'t>,
         line: usize,
         value: &Value,
-    ) -> Result<Message<'w, 't>, Why> {
-        let mut message = Message::of(alloc, table, line)?;
-        message.take_json(value)?;
-        Ok(message)
+    ) -> Result<Message<'w, 't>, Refusal<'t>> {
+        let mut message = match Message::of(alloc, table, line) {
+            Ok(message) => message,
+            Err(why) => return Err(Refusal::bare(alloc, why)),
+        };
+        match message.take_json(value) {
+            Ok(()) => Ok(message),
+            Err((name, why)) => Err(message.refusal_here(name, why)),
+        }
     }
 
     /// Takes what an object of JSON has of the body: the members `fields` and `attributes`, or `payload`, and `rest`.
     ///
-    /// Refused, the message has part of it, and is to be dropped.
-    pub(crate) fn take_json(&mut self, value: &Value) -> Result<(), Why> {
-        self.set_generic(number_in(value, "version")?, number_in(value, "reserved")?);
+    /// Refused with a name, the message has part of it, and is to be dropped.
+    pub(crate) fn take_json<'v>(&mut self, value: &'v Value) -> Result<(), (&'v str, Why)> {
+        named(self.take_generic(value), "")?;
         if let Some(fields) = value.get("fields") {
-            self.take_fields(fields)?;
+            self.take_fields(fields, Others::Refused)?;
         }
-        if let Some(items) = value.get("attributes") {
-            self.take_list(items, MAX_DEPTH + 1)?;
+        match value.get("attributes") {
+            Some(members) if members.is_object() => self.take_members(members, MAX_DEPTH + 1)?,
+            Some(items) => self.take_list(items, MAX_DEPTH + 1)?,
+            None => {}
         }
+        named(self.take_whole(value), "")
+    }
+
+    /// Takes the version and what follows it in the header of generic netlink.
+    fn take_generic(&mut self, value: &Value) -> Result<(), Why> {
+        self.set_generic(number_in(value, "version")?, number_in(value, "reserved")?);
+        Ok(())
+    }
+
+    /// Takes the length of a body that is cut off, and a body that is bytes.
+    fn take_whole(&mut self, value: &Value) -> Result<(), Why> {
         if let Some(length) = number_in(value, "length")? {
             self.end_at(length);
         }
@@ -69,11 +122,13 @@ impl<'w, 't> Message<'w, 't> {
 
     /// What an array of a list has: attributes, hops, and bytes behind them.
     #[cycle(lists)]
-    fn take_list(&mut self, value: &Value, depth: usize) -> Result<(), Why> {
+    fn take_list<'v>(&mut self, value: &'v Value, depth: usize) -> Result<(), (&'v str, Why)> {
         let Some(depth) = depth.checked_sub(1) else {
-            return Err(Why::TooDeep);
+            return Err(("", Why::TooDeep));
         };
-        let items = value.as_array().ok_or(Why::OtherSort)?;
+        let Some(items) = value.as_array() else {
+            return Err(("", Why::OtherSort));
+        };
         for item in items {
             self.take_item(item, items, depth)?;
         }
@@ -82,51 +137,76 @@ impl<'w, 't> Message<'w, 't> {
 
     /// One of a list, of which all are these.
     #[cycle(lists)]
-    fn take_item(&mut self, item: &Value, items: &[Value], depth: usize) -> Result<(), Why> {
+    fn take_item<'v>(
+        &mut self,
+        item: &'v Value,
+        items: &[Value],
+        depth: usize,
+    ) -> Result<(), (&'v str, Why)> {
         if item.get("fault").is_some() {
-            let bytes = self.rest_of(item)?;
-            return Ok(self.ask(Part::Rest, bytes)?);
+            return named(self.take_rest(item), "");
         }
         if item.get("length").is_some() {
             return self.take_hop(item, depth);
         }
-        let number = self.number(item)?;
-        let nested = if holds(item, "nested") { NESTED } else { 0 };
-        let order = if holds(item, "net_byteorder") {
-            NET_BYTEORDER
-        } else {
-            0
-        };
-        let field = number | nested | order;
         if let Some(inner) = item.get("attributes") {
-            let place = self.place_among(number, items)?;
-            self.open_at(place, None, Part::Nest(field))?;
+            named(self.open_item(item, items, Opened::Nest), name_of(item))?;
             return self.take_opened(item, inner, depth);
         }
         if let Some(inner) = item.get("structures") {
-            let place = self.place_among(number, items)?;
-            self.open_at(place, None, Part::Hops(field))?;
+            named(self.open_item(item, items, Opened::Hops), name_of(item))?;
             self.take_list(inner, depth)?;
             self.close();
             return Ok(());
         }
-        self.take_value(number, field, item, items)
+        named(self.take_value(item, items), name_of(item))
+    }
+
+    /// Opens the list of an attribute.
+    fn open_item(&mut self, item: &Value, items: &[Value], opened: Opened) -> Result<(), Why> {
+        let number = self.number(item)?;
+        let row = self.row_of(number).ok_or(Why::NoName)?;
+        let place = self.place_among(row, items)?;
+        let field = number | flags_of(item);
+        let part = match opened {
+            Opened::Nest => Part::Nest(field),
+            Opened::Hops => Part::Hops(field),
+        };
+        self.open_at(place, Some(row), part)
+    }
+
+    /// Bytes behind the attributes of a list.
+    fn take_rest(&mut self, item: &Value) -> Result<(), Why> {
+        let bytes = self.rest_of(item)?;
+        Ok(self.ask(Part::Rest, bytes)?)
     }
 
     /// A hop.
     #[cycle(lists)]
-    fn take_hop(&mut self, item: &Value, depth: usize) -> Result<(), Why> {
-        let nest = self.innermost().ok_or(Why::NoNest)?;
-        let inner = item.get("attributes").ok_or(Why::NoName)?;
-        self.open_list(nest, None, Part::Hop)?;
+    fn take_hop<'v>(&mut self, item: &'v Value, depth: usize) -> Result<(), (&'v str, Why)> {
+        let Some(inner) = item.get("attributes") else {
+            return Err(("", Why::NoName));
+        };
+        named(self.open_hop(), "")?;
         self.take_opened(item, inner, depth)
+    }
+
+    /// Opens a hop.
+    pub(crate) fn open_hop(&mut self) -> Result<(), Why> {
+        let nest = self.innermost().ok_or(Why::NoNest)?;
+        self.open_list(nest, None, Part::Hop)
     }
 
     /// The structure and the attributes of a nest that was opened last, which is then left.
     #[cycle(lists)]
-    fn take_opened(&mut self, item: &Value, inner: &Value, depth: usize) -> Result<(), Why> {
+    fn take_opened<'v>(
+        &mut self,
+        item: &'v Value,
+        inner: &'v Value,
+        depth: usize,
+    ) -> Result<(), (&'v str, Why)> {
         if let Some(fields) = item.get("fields") {
-            self.take_nest_fields(fields)?;
+            self.take_fields(fields, Others::Refused)?;
         }
         self.take_list(inner, depth)?;
         self.close();
@@ -155,9 +235,8 @@ impl<'w, 't> Message<'w, 't> {
         }
     }
 
-    /// The place of the line that says what the attribute with this number is, among these of its list.
-    fn place_among(&self, number: u16, items: &[Value]) -> Result<usize, Why> {
-        let row = self.row_of(number).ok_or(Why::NoName)?;
+    /// The place of the line that says what the attribute of this row is, among these of its list.
+    fn place_among(&self, row: usize, items: &[Value]) -> Result<usize, Why> {
         match self.place_of(row) {
             Err(Why::NoCase) => self.case_among(row, items),
             place => place,
@@ -184,17 +263,17 @@ impl<'w, 't> Message<'w, 't> {
     }
 
     /// An attribute with a value.
-    fn take_value(
-        &mut self,
-        number: u16,
-        field: u16,
-        item: &Value,
-        items: &[Value],
-    ) -> Result<(), Why> {
+    fn take_value(&mut self, item: &Value, items: &[Value]) -> Result<(), Why> {
+        let number = self.number(item)?;
         let value = item.get("value").ok_or(Why::NoName)?;
         let mut bytes = self.value_of(number, value, items)?;
         let rest = self.rest_of(item)?;
         bytes.extend_from_slice(&rest)?;
+        self.ask_value(number | flags_of(item), bytes)
+    }
+
+    /// Asks for an attribute with these bytes, where its length can be stated.
+    pub(crate) fn ask_value(&mut self, field: u16, bytes: Vec<u8>) -> Result<(), Why> {
         if bytes.len() > MAX_PAYLOAD {
             return Err(Why::TooLong);
         }
@@ -206,7 +285,8 @@ impl<'w, 't> Message<'w, 't> {
         if let Some(digits) = plain_digits(value) {
             return digits_bytes(self.alloc(), digits);
         }
-        let place = self.place_among(number, items)?;
+        let row = self.row_of(number).ok_or(Why::NoName)?;
+        let place = self.place_among(row, items)?;
         let options = self.table().options(place).ok_or(Why::NoName)?;
         if matches!(options.kind, Some(Kind::Nest | Kind::Hops)) {
             return Err(Why::IsNest);

@@ -224,48 +224,64 @@ fn struct_bytes(
     depth: usize,
 ) -> Result<Vec<u8>, Why> {
     let mut bytes = zeros(alloc, size_of(table, Some(place)))?;
-    let end = set_fields(alloc, table, place, &mut bytes, value, depth)?;
-    bytes.truncate(end);
+    match set_fields(
+        alloc,
+        table,
+        place,
+        &mut bytes,
+        value,
+        Others::Refused,
+        depth,
+    ) {
+        Ok(end) => bytes.truncate(end),
+        Err((_, why)) => return Err(why),
+    }
     Ok(bytes)
+}
+
+/// What a member of an object may be that is no field of a structure.
+#[derive(Clone, Copy, Debug, PartialEq, Eq)]
+pub(crate) enum Others {
+    /// Nothing: it is refused.
+    Refused,
+    /// An attribute after the structure: it is passed over.
+    Passed,
 }
 
 /// Sets the fields of a structure that an object has, and returns where the structure ends: as the table says, or
 /// where its last field has fewer values, behind these.
 ///
-/// Refused with [`Why::NoName`] where it has others, and as a value is.
+/// Refused with the name of the member: as a value is, and with [`Why::NoName`] where it is no field.
 #[cycle(values)]
-pub(crate) fn set_fields(
+pub(crate) fn set_fields<'v>(
     alloc: Global,
     table: &Table<'_>,
     place: usize,
     bytes: &mut Vec<u8>,
-    value: &Value,
+    value: &'v Value,
+    others: Others,
     depth: usize,
-) -> Result<usize, Why> {
-    let names = table.row_names(place);
-    let mut found = 0;
+) -> Result<usize, (&'v str, Why)> {
+    let Some(members) = value.as_object() else {
+        return Err(("", Why::OtherSort));
+    };
+    let last = place.saturating_add(table.row_names(place).len());
     let mut end = bytes.len();
-    for index in 0..names.len() {
-        let Some(name) = names[index] else {
-            continue;
-        };
-        let Some(member) = value.get(name) else {
-            continue;
-        };
-        let row = place.saturating_add(1).saturating_add(index);
-        if row_named(table, place, name.as_bytes()) == Some(row) {
-            found += 1;
-            let last = set_member(alloc, table, row, bytes, member, depth)?;
-            if index + 1 == names.len() {
-                end = last;
+    for (name, member) in members.iter() {
+        let name = name.as_str();
+        let Some(row) = row_named(table, place, name.as_bytes()) else {
+            if others == Others::Refused {
+                return Err((name, Why::NoName));
             }
+            continue;
+        };
+        match set_member(alloc, table, row, bytes, member, depth) {
+            Ok(after) if row == last => end = after,
+            Ok(_) => {}
+            Err(why) => return Err((name, why)),
         }
     }
-    match value.as_object() {
-        Some(object) if object.len() == found => Ok(end),
-        Some(_) => Err(Why::NoName),
-        None => Err(Why::OtherSort),
-    }
+    Ok(end)
 }
 
 /// Sets the field of the row at this place, and returns where its structure ends if it is the last.

@@ -1,12 +1,13 @@
 //! A message that is written by names.
 
-ghost use Rattle.std.specs.Prelude.{◌≡◌, IfOk, OnErr, length, take};
+ghost use Rattle.std.specs.Prelude.{◌≡◌, IfOk, OnErr, length, map, take};
+ghost use Rattle.neli_tables_write.specs.Asked.{asked_view};
 
 use crate::asked::{Asked, Part, says};
 use crate::attributes::{NESTED, NUMBER};
 use crate::choice::case_of;
 use crate::fields::set_field;
-use crate::json::{DEPTH, set_fields};
+use crate::json::{DEPTH, Others, set_fields};
 use crate::names::nearest_row;
 use crate::nested::{headed, list_of};
 use crate::open::{Open, nest_of};
@@ -14,7 +15,7 @@ use crate::structure::{size_of, zeros};
 use crate::{Given, MAX_PAYLOAD, Refusal, Why, request_named, row_named, value_bytes};
 use arrayvec::ArrayVec;
 use neli_tables::{Kind, Options, Table, Tables, options_of};
-use neli_tables_walk::{Body, GenericHeader, MAX_DEPTH, Nest};
+use neli_tables_walk::{Body, GenericHeader, LineName, MAX_DEPTH, Nest};
 use serde_json::Value;
 use std::alloc::{AllocError, Global};
 
@@ -173,7 +174,7 @@ impl<'w, 't> Message<'w, 't> {
         let path = String::from_str(self.alloc, path)?;
         let nearest = match (why, section) {
             (Why::NoName, Some(section)) => {
-                nearest_row(self.alloc, self.table, section, name.as_bytes())?
+                nearest_row(self.alloc, self.table, &[section], name.as_bytes())?
             }
             _ => None,
         };
@@ -423,36 +424,108 @@ impl<'w, 't> Message<'w, 't> {
         Ok(())
     }
 
-    /// Sets fields of the structure at the front of the body from an object of JSON.
-    pub(crate) fn take_fields(&mut self, value: &Value) -> Result<(), Why> {
-        let structure = self.structure.ok_or(Why::NoName)?;
+    /// Sets the fields of the structure before the innermost open list that an object of JSON has, where it has just been
+    /// opened, and returns where it ends. Refused with the name of the member.
+    pub(crate) fn take_fields<'v>(
+        &mut self,
+        value: &'v Value,
+        others: Others,
+    ) -> Result<usize, (&'v str, Why)> {
+        let Some(place) = self.innermost_structure() else {
+            return match others {
+                Others::Refused => Err(("", Why::NoName)),
+                Others::Passed => Ok(0),
+            };
+        };
+        if self.levels.len() > 1
+            && let Some(asked) = self.asked.last_mut()
+        {
+            return set_fields(
+                self.alloc,
+                self.table,
+                place,
+                &mut asked.bytes,
+                value,
+                others,
+                DEPTH,
+            );
+        }
         set_fields(
             self.alloc,
             self.table,
-            structure,
+            place,
             &mut self.header,
             value,
+            others,
             DEPTH,
-        )?;
-        Ok(())
+        )
     }
 
-    /// The same of the structure of the nest that was opened last.
-    pub(crate) fn take_nest_fields(&mut self, value: &Value) -> Result<(), Why> {
-        let open = self.levels.last().ok_or(Why::NoNest)?;
-        let structure = open.nest.after.ok_or(Why::NoName)?;
-        let Some(asked) = self.asked.last_mut() else {
-            return Err(Why::NoNest);
-        };
-        set_fields(
-            self.alloc,
-            self.table,
-            structure,
-            &mut asked.bytes,
-            value,
-            DEPTH,
-        )?;
-        Ok(())
+    /// The structure before the innermost open list, or that of the body where none is open.
+    pub(crate) fn innermost_structure(&self) -> Option<usize> {
+        match self.levels.last() {
+            Some(open) if self.levels.len() > 1 => open.nest.after,
+            _ => self.structure,
+        }
+    }
+
+    /// The refusal of this name in the innermost open list.
+    pub(crate) fn refusal_here(&self, name: &str, why: Why) -> Refusal<'t> {
+        match self.path_to(name) {
+            Ok(path) => {
+                let nearest = self.nearest_here(name, why);
+                Refusal { path, why, nearest }
+            }
+            Err(AllocError) => Refusal {
+                path: String::new(self.alloc),
+                why: Why::Memory,
+                nearest: None,
+            },
+        }
+    }
+
+    /// Where nothing here has this name, the nearest that an attribute or a field has; `None` too where memory runs out.
+    fn nearest_here(&self, name: &str, why: Why) -> Option<&'t [u8]> {
+        if why != Why::NoName {
+            return None;
+        }
+        let mut sections = ArrayVec::<usize, 2>::new();
+        if let Some(open) = self.levels.last() {
+            sections.push(open.nest.set);
+        }
+        if let Some(structure) = self.innermost_structure() {
+            sections.push(structure);
+        }
+        match nearest_row(self.alloc, self.table, &sections, name.as_bytes()) {
+            Ok(nearest) => Some(nearest?.name),
+            Err(AllocError) => None,
+        }
+    }
+
+    /// The names of the open nests, from the outside in, and this name, with dots between them.
+    fn path_to(&self, name: &str) -> Result<String, AllocError> {
+        let mut path = String::new(self.alloc);
+        for open in self.levels.iter() {
+            let Some(row) = open.row else {
+                continue;
+            };
+            let text = LineName {
+                table: self.table,
+                place: row,
+            };
+            path = if path.is_empty() {
+                format!(in self.alloc; "{text}")?
+            } else {
+                format!(in self.alloc; "{path}.{text}")?
+            };
+        }
+        if path.is_empty() {
+            return String::from_str(self.alloc, name);
+        }
+        if name.is_empty() {
+            return Ok(path);
+        }
+        format!(in self.alloc; "{path}.{name}")
     }
 
     /// Cuts a body without attributes that is longer than a message of so many bytes has room for.
@@ -476,6 +549,13 @@ impl<'w, 't> Message<'w, 't> {
     /// What the innermost open list has.
     pub(crate) fn innermost(&self) -> Option<Nest> {
         Some(self.levels.last()?.nest)
+    }
+
+    /// What is asked for, in order.
+    pub(crate) fn asked(&self) -> &[Asked]
+        ensures { map asked_view result.now ≡ asked_of self.now }
+    {
+        &self.asked
     }
 
     /// The table.

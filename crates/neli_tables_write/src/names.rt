@@ -60,23 +60,25 @@ fn position_of_request(lines: &[Line<'_>], name: &[u8]) -> Option<usize>
     lines.iter().position(|line| is_request(line, name))
 }
 
-/// The first row of the section at this place whose name takes the fewest changes of a byte to be this one; `None`
-/// where it has no row.
+/// The first row of the sections at these places whose name takes the fewest changes of a byte to be this one; `None`
+/// where they have no row.
 ///
 /// Refused where memory runs out.
 pub(crate) fn nearest_row<'w, 't>(
     alloc: Global,
     table: &'w Table<'t>,
-    section: usize,
+    sections: &[usize],
     name: &[u8],
 ) -> Result<Option<&'w Line<'t>>, AllocError> {
     let mut best: Option<(usize, &Line<'t>)> = None;
-    for row in table.rows(section) {
-        let far = strsim::generic_levenshtein(alloc, row.name, name)?;
-        best = match best {
-            Some((least, nearest)) if least <= far => Some((least, nearest)),
-            _ => Some((far, row)),
-        };
+    for section in sections {
+        for row in table.rows(*section) {
+            let far = strsim::generic_levenshtein(alloc, row.name, name)?;
+            best = match best {
+                Some((least, nearest)) if least <= far => Some((least, nearest)),
+                _ => Some((far, row)),
+            };
+        }
     }
     match best {
         Some((_, row)) => Ok(Some(row)),

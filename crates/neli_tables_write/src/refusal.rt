@@ -5,6 +5,7 @@ ghost use Rattle.neli_tables_write.specs.Refusals.{nearest_text, refusal_text};
 
 use crate::Why;
 use neli_tables_walk::Name;
+use std::alloc::Global;
 use std::fmt;
 
 /// Why something that was asked for is refused.
@@ -16,6 +17,29 @@ pub struct Refusal<'t> {
     pub why: Why,
     /// Where no such name is there, the name there that takes the fewest changes of a byte.
     pub nearest: Option<&'t [u8]>,
+}
+
+impl<'t> Refusal<'t> {
+    /// A refusal of no name, as of a whole message.
+    pub(crate) fn bare(alloc: Global, why: Why) -> Refusal<'t> {
+        Refusal {
+            path: String::new(alloc),
+            why,
+            nearest: None,
+        }
+    }
+
+    /// A refusal of a name; where memory runs out, of none.
+    pub(crate) fn of(alloc: Global, name: &str, why: Why) -> Refusal<'t> {
+        match String::from_str(alloc, name) {
+            Ok(path) => Refusal {
+                path,
+                why,
+                nearest: None,
+            },
+            Err(_) => Refusal::bare(alloc, Why::Memory),
+        }
+    }
 }
 
 /// The nearest name, if there is one.

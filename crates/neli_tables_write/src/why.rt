@@ -35,6 +35,8 @@ pub enum Why {
     NoNest,
     /// Ten lists are open, as many as the walk enters.
     TooDeep,
+    /// The number of the family of generic netlink was not learnt.
+    NoFamily,
 }
 
 impl From<AllocError> for Why {
@@ -65,6 +67,7 @@ impl fmt::Display for Why {
             Why::IsNest => "a nest",
             Why::NoNest => "no nest",
             Why::TooDeep => "nested too deep",
+            Why::NoFamily => "the number of its family is not known",
         })
     }
 }

@@ -2,7 +2,8 @@
 
 use neli_tables::Tables;
 use neli_tables_walk::built_in;
-use neli_tables_write::{Given, Message};
+use neli_tables_write::{Given, Message, message_from_json};
+use serde_json::Value;
 use std::alloc::Global;
 use std::test::Fail;
 
@@ -130,5 +131,135 @@ fn refusals_have_paths_and_reasons(rt: HostRuntime) -> Result<(), Fail> {
         refused(alloc, "IFLA_ADDRESS", &long[..])?.as_str(),
         "IFLA_ADDRESS: longer than 65531 bytes"
     );
+    Ok(())
+}
+
+/// The payload of the message that a text of JSON is, or why there is none.
+fn from_text(alloc: Global, protocol: u16, text: &str) -> Result<Result<Vec<u8>, String>, Fail> {
+    let mut tables = built_in(alloc)?;
+    tables.learn(21, b"ethtool")?;
+    let value = Value::from_str(alloc, text)?;
+    Ok(match message_from_json(alloc, &tables, protocol, &value) {
+        Ok(written) => Ok(written.payload),
+        Err(refusal) => Err(format!(in alloc; "{refusal}")?),
+    })
+}
+
+#[test]
+fn objects_of_names(rt: HostRuntime) -> Result<(), Fail> {
+    let alloc = rt.alloc();
+    // What may mean several things comes last: of an address the family says what it is.
+    let mut turned = Vec::from_slice(alloc, &BLACKHOLE[..12])?;
+    turned.extend_from_slice(&BLACKHOLE[20..])?;
+    turned.extend_from_slice(&BLACKHOLE[12..20])?;
+    let rows: [(u16, &str, &[u8]); 4] = [
+        (
+            0,
+            "{\"name\":\"RTM_NEWROUTE\",\"attributes\":{\"rtm_family\":2,\"rtm_dst_len\":16,\"rtm_protocol\":\"boot\",\
+             \"rtm_type\":\"blackhole\",\"RTA_DST\":\"10.3.0.0\",\"RTA_TABLE\":500}}",
+            &turned,
+        ),
+        (
+            16,
+            "{\"name\":\"ETHTOOL_MSG_LINKMODES_GET\",\
+             \"attributes\":{\"ETHTOOL_A_LINKMODES_HEADER\":{\"ETHTOOL_A_HEADER_DEV_NAME\":\"veth0\"}}}",
+            LINK_MODES,
+        ),
+        (
+            0,
+            "{\"name\":\"RTM_DELADDR\",\"fields\":{\"ifa_family\":2,\"ifa_prefixlen\":24,\"ifa_index\":9},\
+             \"attributes\":{\"IFA_ADDRESS\":\"192.0.2.88\",\"IFA_LOCAL\":\"192.0.2.88\",\"IFA_LABEL\":null}}",
+            ADDRESS,
+        ),
+        (
+            16,
+            "{\"name\":\"CTRL_CMD_GETFAMILY\",\"attributes\":{\"2\":\"ethtool\"}}",
+            FAMILY,
+        ),
+    ];
+    for (protocol, text, payload) in rows {
+        match from_text(alloc, protocol, text)? {
+            Ok(bytes) => assert_eq!(rt; &bytes[..], payload),
+            Err(refusal) => assert_eq!(rt; refusal.as_str(), text),
+        }
+    }
+    Ok(())
+}
+
+#[test]
+fn refused_objects_of_names(rt: HostRuntime) -> Result<(), Fail> {
+    let alloc = rt.alloc();
+    let rows: [(u16, &str, &str); 14] = [
+        (0, "[]", "name: no such name"),
+        (0, "{\"name\":\"RTM_NEWLUNK\"}", "RTM_NEWLUNK: no such name"),
+        (
+            16,
+            "{\"name\":\"RTM_NEWLINK\"}",
+            "RTM_NEWLINK: no such name",
+        ),
+        (
+            16,
+            "{\"name\":\"NL80211_CMD_GET_WIPHY\"}",
+            "NL80211_CMD_GET_WIPHY: the number of its family is not known",
+        ),
+        (
+            0,
+            "{\"name\":\"RTM_NEWLINK\",\"flags\":[\"NLM_F_ACQ\"]}",
+            "flags: no such value",
+        ),
+        (
+            0,
+            "{\"name\":\"RTM_NEWLINK\",\"seq\":4294967296}",
+            "seq: out of range",
+        ),
+        (
+            0,
+            "{\"name\":\"RTM_NEWLINK\",\"fields\":{\"ifi_indx\":1}}",
+            "ifi_indx: no such name, the nearest is ifi_index",
+        ),
+        (
+            0,
+            "{\"name\":\"RTM_NEWLINK\",\"attributes\":{\"IFLA_MTUU\":1}}",
+            "IFLA_MTUU: no such name, the nearest is IFLA_MTU",
+        ),
+        (
+            0,
+            "{\"name\":\"RTM_NEWLINK\",\"attributes\":{\"IFLA_MTU\":\"x\"}}",
+            "IFLA_MTU: a value of another sort",
+        ),
+        (
+            0,
+            "{\"name\":\"RTM_NEWLINK\",\"attributes\":{\"IFLA_LINKINFO\":1}}",
+            "IFLA_LINKINFO: a value of another sort",
+        ),
+        (
+            0,
+            "{\"name\":\"RTM_NEWLINK\",\"attributes\":{\"IFLA_LINKINFO\":{\"IFLA_INFO_KIND\":\"vlan\",\
+             \"IFLA_INFO_DATA\":{\"IFLA_VLAN_ID\":65536}}}}",
+            "IFLA_LINKINFO.IFLA_INFO_DATA.IFLA_VLAN_ID: out of range",
+        ),
+        (
+            0,
+            "{\"name\":\"RTM_NEWLINK\",\"attributes\":{\"IFLA_LINKINFO\":{\"IFLA_INFO_DATA\":{\"IFLA_VLAN_ID\":1}}}}",
+            "IFLA_LINKINFO.IFLA_INFO_DATA: nothing before it says what it is",
+        ),
+        (
+            0,
+            "{\"name\":\"RTM_NEWLINK\",\"attributes\":[{\"name\":\"IFLA_LINKINFO\",\
+             \"attributes\":[{\"name\":\"IFLA_INFO_KIND\",\"value\":7}]}]}",
+            "IFLA_LINKINFO.IFLA_INFO_KIND: a value of another sort",
+        ),
+        (
+            0,
+            "{\"name\":\"RTM_NEWLINK\",\"attributes\":{\"999\":1}}",
+            "999: a value of another sort",
+        ),
+    ];
+    for (protocol, text, wanted) in rows {
+        match from_text(alloc, protocol, text)? {
+            Ok(_) => assert_eq!(rt; text, wanted),
+            Err(refusal) => assert_eq!(rt; refusal.as_str(), wanted),
+        }
+    }
     Ok(())
 }

@@ -1,4 +1,4 @@
-use Rattle.std.proofs.Common.{◌+◌, ◌*◌, ◌≤◌}
+use Rattle.std.proofs.Common.{◌+◌, ◌*◌}
 use Rattle.neli_tables_write.proofs.json.+values.Given as goal
 
 -- a structure or an array in another has one level less
@@ -16,6 +16,3 @@ decreases-set_fields l = 4 * l.depth + 2
 
 abbrev pub decreases-set_member : goal.decreases-set_member
 decreases-set_member l = 4 * l.depth + 1
-
-abbrev pub invariant-set_fields-loop-index : goal.invariant-set_fields-loop-index
-invariant-set_fields-loop-index l = l.found ≤ l.index
