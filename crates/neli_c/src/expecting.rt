@@ -42,12 +42,7 @@ pub extern "C" fn neli_c_answering(
 ///
 /// A number that is none of `enum neli_answering` is taken for that of an acknowledgement.
 #[unsafe(no_mangle)]
-pub extern "C" fn neli_c_ends_answer(
-    answering: u32,
-    nl_type: u16,
-    flags: u16,
-    code: i32,
-) -> i32
+pub extern "C" fn neli_c_ends_answer(answering: u32, nl_type: u16, flags: u16, code: i32) -> i32
     ensures { result ≡ pos
         (byte_of (ends_answer (answering_of_number answering) nl_type (flags_of flags) code)) }
 {

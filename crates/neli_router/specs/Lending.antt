@@ -1,6 +1,6 @@
 -- Lent reads: the item that is lent, and what the step past it changes.
 use Rattle.std.specs.Prelude.{◌≡◌, ℕ, ℤ, pos, Bool, true, false, not, ◌&&◌, ◌||◌, ◌==◌, bit_and, if◌then◌else◌}
-use Rattle.std.specs.Prelude.{List, length, ◌<◌, Result, Ok, Err}
+use Rattle.std.specs.Prelude.{List, ◌<◌, Result, Ok, Err}
 use Rattle.neli_wire.specs.declared.errors.DeError.{DeError}
 use Rattle.neli_reader.specs.Framed.{Nlmsghdr}
 use Rattle.neli_reader.specs.Kinds.{is_acknowledged, is_multi}

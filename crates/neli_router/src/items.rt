@@ -43,7 +43,9 @@ fn is_last_item<T: NlType, P>(
     ensures { result ≡ is_last_item T.wire_number answering item.now }
 {
     match item {
-        Ok(message) => { answering.ends_with(message.nl_type().to_number(), *message.nl_flags(), 0) }
+        Ok(message) => {
+            answering.ends_with(message.nl_type().to_number(), *message.nl_flags(), 0)
+        }
         Err(_) => false,
     }
 }

@@ -19,10 +19,22 @@ const ROWS: [(&[Event], Freshness); 11] = [
     (&[Requested(7), Ended(8, Verdict::Complete)], Read(7)),
     (&[Requested(7), Ended(7, Verdict::Interrupted)], Stale),
     (&[Requested(7), Ended(7, Verdict::Failed(-16))], Stale),
-    (&[Requested(7), Ended(7, Verdict::Lost(Loss::Link(105)))], Stale),
+    (
+        &[Requested(7), Ended(7, Verdict::Lost(Loss::Link(105)))],
+        Stale,
+    ),
     (&[Requested(7), Lost, Ended(7, Verdict::Complete)], Stale),
     (&[Requested(7), Ended(7, Verdict::Complete), Lost], Stale),
-    (&[Requested(7), Lost, Requested(8), Ended(7, Verdict::Complete), Ended(8, Verdict::Complete)], Current),
+    (
+        &[
+            Requested(7),
+            Lost,
+            Requested(8),
+            Ended(7, Verdict::Complete),
+            Ended(8, Verdict::Complete),
+        ],
+        Current,
+    ),
 ];
 
 #[test]
