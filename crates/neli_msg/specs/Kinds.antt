@@ -5,10 +5,10 @@ use Rattle.neli_wire.specs.declared.errors.DeError.{DeError}
 use Rattle.neli_wire.specs.Frames.{number_in}
 use Rattle.neli_wire.specs.Reading.{◌>>=◌}
 use Rattle.neli_consts.specs.declared.nlm_f.NlmF.{NlmF}
-use Rattle.neli_msg.specs.declared.payload.Kind.{Kind}
-use Rattle.neli_msg.specs.declared.payload.Kind.TheVariants.{Body, Nothing, DumpEnd, Acknowledgement, Capped, Failure}
-use Rattle.neli_msg.specs.declared.answer.Tail.{Tail}
-use Rattle.neli_msg.specs.declared.answer.Tail.TheVariants.{Unread, Attributes as Listed}
+use Rattle.neli_msg.specs.declared.kind.Kind.{Kind}
+use Rattle.neli_msg.specs.declared.kind.Kind.TheVariants.{Body, Nothing, DumpEnd, Acknowledgement, Capped, Failure}
+use Rattle.neli_msg.specs.declared.kind.Tail.{Tail}
+use Rattle.neli_msg.specs.declared.kind.Tail.TheVariants.{Unread, Attributes as Listed}
 use Rattle.neli_msg.specs.declared.payload.NlPayload.{NlPayload}
 use Rattle.neli_msg.specs.declared.payload.NlPayload.TheVariants as payload
 use Rattle.neli_msg.specs.Answers.{dump_end_in, failure_in, failure_takes_memory}

@@ -23,7 +23,7 @@ ghost use Rattle.neli_msg.specs.laws.Answers.{failure_in-never_short, failure_in
 use crate::frame::{from_place, read_attributes, write_three};
 use crate::framed::Framed;
 use crate::header::header_of;
-use crate::{Echoed, NlmsghdrAck, NlmsghdrErr, RouterError};
+use crate::{Echoed, NlmsghdrAck, NlmsghdrErr, RouterError, Tail};
 use byteorder::{ByteOrder, LittleEndian};
 use neli_attr::{Buffer, BuildError, GenlBuffer, of};
 use neli_consts::{MESSAGE_HEADER_SIZE, NlType, NlmsgerrAttr};
@@ -107,15 +107,6 @@ pub(crate) fn read_dump_end(alloc: Global, bytes: &[u8]) -> Result<Nlmsgerr<()>,
     let rest = after(bytes, 4)?;
     let ext_ack = read_attributes(alloc, rest)?;
     Ok(answer_of(bytes, (), ext_ack))
-}
-
-/// What stands after the header that an acknowledgement or a capped error answers.
-#[derive(Clone, Copy)]
-pub(crate) enum Tail {
-    /// Bytes that are not read.
-    Unread,
-    /// Attributes.
-    Attributes,
 }
 
 /// The attributes of a tail; none if it is not read.

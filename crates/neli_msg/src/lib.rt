@@ -4,7 +4,7 @@
 //! - [`NlmsghdrErr`]: the message that an error answers, as it is echoed.
 //! - [`Nlmsgerr`]: an answer, which is a code, what it answers, and attributes.
 //! - [`Explained`]: an answer in a form for people.
-//! - [`NlPayload`]: the payload of a message, by its kind.
+//! - [`Kind`]: what the payload of a message is; [`NlPayload`]: that payload, read.
 //! - [`Framed`]: a header and its payload, the form of all messages.
 //! - [`laws`]: what these state about themselves.
 //!
@@ -17,6 +17,7 @@ mod explained;
 mod frame;
 mod framed;
 mod header;
+mod kind;
 pub mod laws;
 mod message;
 mod payload;
@@ -28,6 +29,7 @@ pub use echo::{Echoed, NlmsghdrErr, NlmsghdrErrBuilder, NlmsghdrErrBuilderError}
 pub use explained::Explained;
 pub use framed::{Carried, Framed, FramedBuilder};
 pub use header::{NlmsghdrAck, NlmsghdrAckBuilder, NlmsghdrAckBuilderError};
+pub use kind::{Kind, Tail};
 pub use message::{Nlmsghdr, NlmsghdrBuilder, NlmsghdrBuilderError};
 pub use payload::NlPayload;
 pub use router_error::RouterError;

@@ -5,20 +5,18 @@ ghost use Rattle.neli_wire.specs.Place.{whole};
 ghost use Rattle.neli_wire.specs.Refusals.{Refuses};
 ghost use Rattle.neli_wire.specs.Reading.{exact_reading, exact_takes_memory};
 ghost use Rattle.neli_msg.specs.Copies.{payload_copy_takes_memory};
-ghost use Rattle.neli_msg.specs.Kinds.{is_acknowledged, kind_of, kind_takes_memory, payload_as};
-ghost use Rattle.neli_msg.specs.Kinds.{payload_in, payload_takes_memory, payload_view, tail_of};
+ghost use Rattle.neli_msg.specs.Kinds.{kind_takes_memory, payload_as, payload_in, payload_takes_memory};
+ghost use Rattle.neli_msg.specs.Kinds.{payload_view};
 ghost use Rattle.neli_wire.specs.laws.Sizes.{unpadded-rounded};
 ghost use Rattle.neli_msg.specs.Retyping.{HasOwnEcho, IsEchoTooLong, RefusesTyping, body_count};
 ghost use Rattle.neli_msg.specs.Retyping.{first_as, first_takes_memory, payload_stating, stated_echo, typed_first};
 ghost use Rattle.neli_msg.specs.Wires.{payload_size, payload_wire};
 ghost use Rattle.neli_msg.specs.laws.Wires.{payload_wire-length, payload_wire-no_memory, payload_wire-zeros};
 
-use crate::answer::{Tail, read_dump_end, read_failure, read_headed};
-use crate::{Nlmsgerr, NlmsghdrAck, NlmsghdrErr, RouterError};
-use bitflags::Flags;
-use byteorder::{ByteOrder, LittleEndian};
+use crate::answer::{read_dump_end, read_failure, read_headed};
+use crate::{Kind, Nlmsgerr, NlmsghdrAck, NlmsghdrErr, RouterError};
 use neli_attr::Buffer;
-use neli_consts::{NLMSG_DONE, NLMSG_ERROR, NlType, NlmF};
+use neli_consts::{NlType, NlmF};
 use neli_list::{TryClone, read_whole};
 use neli_wire::{Constant, Cursor, DeError, FromBytesWithInput, NoMemory, SerError, Size, ToBytes};
 use std::alloc::Global;
@@ -42,60 +40,6 @@ pub enum NlPayload<T, P> {
     Payload(P),
     /// Nothing: type 3 (`NLMSG_DONE`) without a byte.
     Empty,
-}
-
-/// How the bytes of a payload are read.
-#[derive(Clone, Copy)]
-enum Kind {
-    Body,
-    Nothing,
-    DumpEnd,
-    Acknowledgement(Tail),
-    Capped(Tail),
-    Failure,
-}
-
-/// Whether these bytes are an acknowledgement, and not an error.
-fn is_acknowledgement(bytes: &[u8]) -> bool
-    ensures { result ≡ is_acknowledged bytes.now }
-{
-    bytes.len() >= 20 && LittleEndian::read_u32(bytes) == 0
-}
-
-/// What stands after the header that a message with these flags answers: attributes under CAPPED and ACK_TLVS.
-fn tail_of(flags: NlmF) -> Tail
-    ensures { result ≡ tail_of flags }
-{
-    if flags.contains(NlmF::CAPPED) && flags.contains(NlmF::ACK_TLVS) {
-        Tail::Attributes
-    } else {
-        Tail::Unread
-    }
-}
-
-/// The kind of a payload of these bytes, after a header of this type and these flags.
-fn kind_of(number: u16, flags: NlmF, bytes: &[u8]) -> Kind
-    ensures { result ≡ kind_of number flags bytes.now }
-{
-    if number == NLMSG_ERROR {
-        if is_acknowledgement(bytes) {
-            Kind::Acknowledgement(tail_of(flags))
-        } else if flags.contains(NlmF::CAPPED) {
-            Kind::Capped(tail_of(flags))
-        } else {
-            Kind::Failure
-        }
-    } else if number == NLMSG_DONE {
-        if bytes.is_empty() {
-            Kind::Nothing
-        } else if flags.contains(NlmF::MULTI) {
-            Kind::DumpEnd
-        } else {
-            Kind::Body
-        }
-    } else {
-        Kind::Body
-    }
 }
 
 /// Reads a payload of this kind.
@@ -134,7 +78,7 @@ pub(crate) fn read_payload<T: Constant<Number = u16>, P: FromBytesWithInput>(
         (Refuses (payload_in T.wire_value P.read number flags bytes.now)
         (payload_takes_memory P.read P.takes_memory number flags bytes.now)) }
 {
-    read_as(alloc, kind_of(number, flags, bytes), bytes)
+    read_as(alloc, Kind::of(number, flags, bytes), bytes)
 }
 
 impl<T: Constant<Number = u16>, P: FromBytesWithInput> NlPayload<T, P> {

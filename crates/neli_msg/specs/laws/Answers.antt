@@ -12,8 +12,8 @@ use Rattle.neli_attr.specs.TypeField.{type_of}
 use Rattle.neli_attr.specs.laws.Attributes.{attribute-no_memory}
 use Rattle.neli_msg.specs.Answers.{ext_ack_in, after, after_echo, dump_end_in, acknowledgement_in, echoed_in}
 use Rattle.neli_msg.specs.Answers.{echoed_count, echoed_length, failure_in, headed_in, tail_in}
-use Rattle.neli_msg.specs.declared.answer.Tail.{Tail}
-use Rattle.neli_msg.specs.declared.answer.Tail.TheVariants.{Unread, Attributes as Listed}
+use Rattle.neli_msg.specs.declared.kind.Tail.{Tail}
+use Rattle.neli_msg.specs.declared.kind.Tail.TheVariants.{Unread, Attributes as Listed}
 
 ext_ack_in-no_memory : (s : List ℕ) → ext_ack_in s ≢ Err Memory
 ext_ack_in-no_memory s =

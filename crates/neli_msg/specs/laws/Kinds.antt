@@ -4,8 +4,8 @@ use Rattle.neli_wire.specs.declared.errors.DeError.{DeError}
 use Rattle.neli_wire.specs.declared.errors.DeError.TheVariants.{Memory}
 use Rattle.neli_wire.specs.laws.Reading.{bind-not}
 use Rattle.neli_consts.specs.declared.nlm_f.NlmF.{NlmF}
-use Rattle.neli_msg.specs.declared.payload.Kind.{Kind}
-use Rattle.neli_msg.specs.declared.payload.Kind.TheVariants.{Body, Nothing, DumpEnd, Acknowledgement, Capped, Failure}
+use Rattle.neli_msg.specs.declared.kind.Kind.{Kind}
+use Rattle.neli_msg.specs.declared.kind.Kind.TheVariants.{Body, Nothing, DumpEnd, Acknowledgement, Capped, Failure}
 use Rattle.neli_msg.specs.Answers.{dump_end_in, failure_in, headed_in}
 use Rattle.neli_msg.specs.laws.Answers.{dump_end_in-no_memory, failure_in-no_memory, headed_in-no_memory}
 use Rattle.neli_msg.specs.Kinds.{kind_of, payload_as, payload_in}

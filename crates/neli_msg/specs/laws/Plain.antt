@@ -11,12 +11,12 @@ use Rattle.neli_wire.specs.laws.Elements.{elements_by}
 use Rattle.neli_consts.specs.NlmsgerrAttr.{nlmsgerr_attr_of}
 use Rattle.neli_attr.specs.Attributes.{attribute, attributes_in}
 use Rattle.neli_attr.specs.TypeField.{type_of}
-use Rattle.neli_msg.specs.declared.payload.Kind.{Kind}
-use Rattle.neli_msg.specs.declared.payload.Kind.TheVariants.{Body, Nothing, DumpEnd, Acknowledgement, Capped, Failure}
+use Rattle.neli_msg.specs.declared.kind.Kind.{Kind}
+use Rattle.neli_msg.specs.declared.kind.Kind.TheVariants.{Body, Nothing, DumpEnd, Acknowledgement, Capped, Failure}
 use Rattle.neli_msg.specs.Answers.{after, after_echo, dump_end_in, echoed_count, echoed_in}
 use Rattle.neli_msg.specs.Answers.{echoed_length, ext_ack_in, failure_in, headed_in, tail_in}
-use Rattle.neli_msg.specs.declared.answer.Tail.{Tail}
-use Rattle.neli_msg.specs.declared.answer.Tail.TheVariants.{Unread, Attributes as Listed}
+use Rattle.neli_msg.specs.declared.kind.Tail.{Tail}
+use Rattle.neli_msg.specs.declared.kind.Tail.TheVariants.{Unread, Attributes as Listed}
 use Rattle.neli_msg.specs.Kinds.{kind_of, payload_as}
 use Rattle.neli_msg.specs.Messages.{message_layout}
 

@@ -13,9 +13,9 @@ use Rattle.neli_wire.specs.Numbers.{AreBytes}
 use Rattle.neli_wire.specs.Reading.{◌>>=◌}
 use Rattle.neli_wire.specs.laws.Reading.{bind_ok, guard_ok, ok_is}
 use Rattle.neli_consts.specs.declared.nlm_f.NlmF.{NlmF}
-use Rattle.neli_msg.specs.declared.payload.Kind.{Kind}
-use Rattle.neli_msg.specs.declared.payload.Kind.TheVariants.{Body, Nothing, DumpEnd, Acknowledgement, Capped, Failure}
-use Rattle.neli_msg.specs.declared.answer.Tail.{Tail}
+use Rattle.neli_msg.specs.declared.kind.Kind.{Kind}
+use Rattle.neli_msg.specs.declared.kind.Kind.TheVariants.{Body, Nothing, DumpEnd, Acknowledgement, Capped, Failure}
+use Rattle.neli_msg.specs.declared.kind.Tail.{Tail}
 use Rattle.neli_msg.specs.declared.payload.NlPayload.{NlPayload}
 use Rattle.neli_msg.specs.declared.payload.NlPayload.TheVariants as payload
 use Rattle.neli_msg.specs.declared.answer.Nlmsgerr.{Nlmsgerr}
