@@ -1,5 +1,7 @@
 pub use Rattle.neli_msg.specs.declared.answer.Nlmsgerr
 pub use Rattle.neli_msg.specs.declared.header.NlmsghdrAck
+pub use Rattle.neli_msg.specs.declared.kind.Kind
+pub use Rattle.neli_msg.specs.declared.kind.Tail
 pub use Rattle.neli_msg.specs.declared.payload.NlPayload
 pub use Rattle.neli_msg.specs.declared.router_error.RouterError
 pub use Rattle.neli_msg.specs.declared.socket_error.SocketError

@@ -13,8 +13,8 @@
 //! The length counts the header and the payload but no padding, so L is the length less 16. The number is the sequence
 //! number. A datagram is such messages, one after the other.
 //!
-//! - [`Nlmsghdr`] is a message, [`NlPayload`] its payload by its kind, and [`Nlmsgerr`] an error, an acknowledgement or
-//!   the end of a dump; [`NlmsghdrErr`] and [`NlmsghdrAck`] are what these answer.
+//! - [`Nlmsghdr`] is a message, [`NlPayload`] its payload by its [`Kind`], and [`Nlmsgerr`] an error, an
+//!   acknowledgement or the end of a dump; [`NlmsghdrErr`] and [`NlmsghdrAck`] are what these answer.
 //! - [`NlBufferIter`] reads the messages of a datagram one by one, [`cut`] reads all of them, and
 //!   [`NlBuffer`] is a list of messages.
 //! - [`SocketError`] is an error of a reader, or of a link below it, [`RouterError`] one of a router, and
@@ -34,7 +34,8 @@ pub mod laws;
 pub use builder_error::BuilderError;
 pub use iter::{NlBuffer, NlBufferIter, cut};
 pub use neli_msg::{
-    Explained, NlPayload, Nlmsgerr, NlmsgerrBuilder, NlmsgerrBuilderError, Nlmsghdr, NlmsghdrAck,
-    NlmsghdrAckBuilder, NlmsghdrAckBuilderError, NlmsghdrBuilder, NlmsghdrBuilderError,
-    NlmsghdrErr, NlmsghdrErrBuilder, NlmsghdrErrBuilderError, RouterError, SocketError,
+    Explained, Kind, NlPayload, Nlmsgerr, NlmsgerrBuilder, NlmsgerrBuilderError, Nlmsghdr,
+    NlmsghdrAck, NlmsghdrAckBuilder, NlmsghdrAckBuilderError, NlmsghdrBuilder,
+    NlmsghdrBuilderError, NlmsghdrErr, NlmsghdrErrBuilder, NlmsghdrErrBuilderError, RouterError,
+    SocketError, Tail,
 };
