@@ -7,7 +7,8 @@ use Rattle.neli_wire.specs.Reading.{◌>>=◌}
 use Rattle.neli_reader.specs.Answers.{code_in}
 use Rattle.neli_reader.specs.Cuts.{Cut, cut_of}
 use Rattle.neli_reader.specs.Headers.{Header}
-use Rattle.neli_reader.specs.Kinds.{payload_in, payload_takes_memory}
+use Rattle.neli_reader.specs.Kind.{Kind}
+use Rattle.neli_reader.specs.Kinds.{kind_of, payload_in, payload_takes_memory}
 use Rattle.neli_reader.specs.Messages.{Message, layout_with}
 use Rattle.neli_lent.specs.declared.message.LentMessage.{LentMessage}
 
@@ -34,6 +35,10 @@ code_or_zero s = if nat_lt (length s) 4 then pos 0 else code_in s
 -- a message's code: that of an error or an acknowledgement (NLMSG_ERROR, 2), or of the end of a dump (NLMSG_DONE, 3)
 abbrev pub code_of : Lent ℕ → ℤ
 code_of m = if (m.0.message_type == 2) || (m.0.message_type == 3) then code_or_zero m.1 else pos 0
+
+-- what a message's payload is
+abbrev pub lent_kind : {K : Type 0} → (K → ℕ) → Lent K → Kind
+lent_kind number_of m = kind_of (number_of m.0.message_type) m.0.flags m.1
 
 -- ---- as an owned message
 

@@ -8,12 +8,13 @@ ghost use Rattle.neli_reader.specs.Answers.{after};
 ghost use Rattle.neli_reader.specs.Messages.{message_of};
 ghost use Rattle.neli_reader.specs.NlPayload.TheVariants as payload;
 ghost use Rattle.neli_reader.specs.Retyping.{typed_header};
-ghost use Rattle.neli_lent.specs.Messages.{as_owned, as_owned_takes_memory, code_of, code_or_zero, lent_message, message_view};
+ghost use Rattle.neli_lent.specs.Messages.{as_owned, as_owned_takes_memory, code_of, code_or_zero, lent_kind};
+ghost use Rattle.neli_lent.specs.Messages.{lent_message, message_view};
 
 use crate::{LentAttrs, lend_payload};
 use byteorder::{ByteOrder, LittleEndian};
 use neli_consts::{MESSAGE_HEADER_SIZE, NLMSG_DONE, NLMSG_ERROR, NlType, NlmF};
-use neli_reader::{NlPayload, Nlmsghdr, NlmsghdrAck};
+use neli_reader::{Kind, NlPayload, Nlmsghdr, NlmsghdrAck};
 use neli_wire::{Constant, Cursor, DeError, FromBytesWithInput, Header};
 use std::alloc::Global;
 use std::io::ErrorKind;
@@ -128,6 +129,17 @@ impl<'b, T: NlType> LentMessage<'b, T> {
         let len = *header.nl_len() as usize;
         let payload = lend_payload(cursor, MESSAGE_HEADER_SIZE, len)?;
         Ok(LentMessage { header, payload })
+    }
+
+    /// What the payload is, by the type, the flags and the payload's bytes. It takes no memory.
+    pub fn kind(&self) -> Kind
+        ensures { result ≡ lent_kind T.wire_number (message_view self.now) }
+    {
+        Kind::of(
+            self.header.nl_type().to_number(),
+            *self.nl_flags(),
+            self.payload,
+        )
     }
 
     /// The message as an owned one, its payload read by its kind: the same as reading a `Nlmsghdr<T, P>` directly.
