@@ -1,10 +1,7 @@
 -- A message's body that is read.
-use Rattle.std.specs.Prelude.{ℕ, ◌&&◌, Bool, true, false, not, List, length, nat_eq, if◌then◌else◌}
-use Rattle.std.specs.Prelude.{Option, Some, None, Result, Ok, Err}
+use Rattle.std.specs.Prelude.{ℕ, List, Option, Some, None, Result, Ok, Err}
 use Rattle.neli_wire.specs.declared.errors.DeError.{DeError}
 use Rattle.neli_wire.specs.Reading.{◌>>=◌}
-use Rattle.neli_consts.specs.declared.nlm_f.NlmF.{NlmF}
-use Rattle.neli_reader.specs.Kinds.{is_multi}
 use Rattle.neli_reader.specs.Messages.{Message}
 use Rattle.neli_reader.specs.Retyping.{body_of}
 use Rattle.neli_lent.specs.Messages.{Lent, as_owned}
@@ -25,8 +22,3 @@ body_read (Err e) = None
 -- the bytes of a lent message's body: those of the owned message that it becomes
 abbrev pub lent_body : {K : Type 0} → (ℕ → K) → (K → ℕ) → Lent K → Option (List ℕ)
 lent_body type_of number_of m = body_read (as_owned type_of number_of (λ bytes. Ok bytes) m)
-
--- whether a payload is a body: none of NLMSG_ERROR, 2, is; of NLMSG_DONE, 3, one with bytes and without NLM_F_MULTI
-abbrev pub is_body : ℕ → NlmF → List ℕ → Bool
-is_body number flags s = if nat_eq number 2 then false
-    else (if nat_eq number 3 then not (nat_eq (length s) 0) && not (is_multi flags) else true)

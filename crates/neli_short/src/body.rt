@@ -5,14 +5,13 @@ ghost use Rattle.std.specs.Option.{option_copied, option_map};
 ghost use Rattle.neli_wire.specs.Refusals.{Refuses};
 ghost use Rattle.neli_lent.specs.Messages.{message_view};
 ghost use Rattle.neli_reader.specs.Retyping.{body_of};
-ghost use Rattle.neli_short.specs.Bodies.{is_body, lent_body, read_there};
+ghost use Rattle.neli_short.specs.Bodies.{lent_body, read_there};
 
-use bitflags::Flags;
 use neli_attr::Buffer;
-use neli_consts::{NLMSG_DONE, NLMSG_ERROR, NlType, NlmF};
+use neli_consts::NlType;
 use neli_lent::LentMessage;
 use neli_list::read_whole;
-use neli_reader::Nlmsghdr;
+use neli_reader::{Kind, Nlmsghdr};
 use neli_wire::{DeError, FromBytesWithInput};
 use std::alloc::Global;
 
@@ -67,28 +66,14 @@ impl<'b, T: NlType> ReadBody for LentMessage<'b, T> {
     ghost body_in = { λ m. lent_body T.wire_value T.wire_number (message_view m) };
 
     fn body_bytes(&self) -> Option<&[u8]> {
-        let number = self.nl_type().to_number();
-        if is_body(number, *self.nl_flags(), self.nl_payload()) {
-            Some(self.nl_payload())
-        } else {
-            None
+        match self.kind() {
+            Kind::Body => Some(self.nl_payload()),
+            _ => None,
         }
     }
 
     // As the trait's, which gets no proof at a type with a lifetime.
     fn body<B: FromBytesWithInput>(&self, alloc: Global) -> Result<Option<B>, DeError> {
         read_there(alloc, self.body_bytes())
-    }
-}
-
-/// Whether a payload after a header of this type and these flags is a body. That of `NLMSG_ERROR` is none, and that of
-/// `NLMSG_DONE` is one where it has bytes, and the flags have no `NLM_F_MULTI`.
-fn is_body(number: u16, flags: NlmF, payload: &[u8]) -> bool
-    ensures { result ≡ is_body number flags payload.now }
-{
-    match number {
-        NLMSG_ERROR => false,
-        NLMSG_DONE => !payload.is_empty() && !flags.contains(NlmF::MULTI),
-        _ => true,
     }
 }
