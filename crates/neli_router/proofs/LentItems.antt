@@ -1,22 +1,23 @@
 -- What is lent, and the step past it, are those of the delivery as it is read untyped.
-use Rattle.std.proofs.Common.{◌≡◌, ℕ, ℤ, pos, Bool, true, false, ◌||◌, ◌&&◌, List, [], ◌∷◌, length, drop, nat_eq}
+use Rattle.std.proofs.Common.{◌≡◌, ℕ, ℤ, Bool, true, false, ◌||◌, List, [], ◌∷◌, length, drop}
 use Rattle.std.proofs.Common.{Option, Some, None, Result, Ok, Err, refl, sym, ap, subst, ◌∙◌, arith}
 use Rattle.std.specs.Prelude.{◌==◌, bit_and, nat_lt, if◌then◌else◌, option_map}
 use Rattle.std.proofs.lemmas.Bool.Decides.{nat_tests}
 use Rattle.neli_wire.specs.declared.errors.DeError.{DeError}
 use Rattle.neli_wire.specs.Reading.{◌>>=◌}
 use Rattle.neli_wire.specs.laws.Reading.{bind_ok, ok_is}
-use Rattle.neli_consts.specs.declared.nlm_f.NlmF.{NlmF}
 use Rattle.neli_reader.specs.Answers.{after, after_echo, answer, code_in, dump_end_in, echoed_in, ext_ack_in}
 use Rattle.neli_reader.specs.Answers.{Attributes, failure_in, headed_in}
 use Rattle.neli_reader.specs.Framed.{Nlmsghdr, NlmsghdrErr}
 use Rattle.neli_reader.specs.Headers.{Header, header_in}
-use Rattle.neli_reader.specs.Kinds.{is_acknowledged, is_capped, is_multi, payload_in, tail_of}
+use Rattle.neli_reader.specs.Kind.{Kind}
+use Rattle.neli_reader.specs.Kind.TheVariants.{Body, Nothing, DumpEnd, Acknowledgement, Capped, Failure}
+use Rattle.neli_reader.specs.Kinds.{payload_as, payload_in}
 use Rattle.neli_reader.specs.NlPayload.{NlPayload}
 use Rattle.neli_reader.specs.NlPayload.TheVariants as payload
 use Rattle.neli_reader.specs.Nlmsgerr.{Nlmsgerr}
 use Rattle.neli_reader.specs.RouterError.TheVariants as router
-use Rattle.neli_lent.specs.Messages.{Lent, code_or_zero, message_view}
+use Rattle.neli_lent.specs.Messages.{Lent, code_or_zero, lent_kind, message_view}
 use Rattle.neli_lent.specs.declared.message.LentMessage.{LentMessage}
 use Rattle.neli_deliveries.specs.declared.delivery.Delivery.{Delivery}
 use Rattle.neli_deliveries.specs.declared.delivery.Delivery.TheVariants as delivery
@@ -28,7 +29,8 @@ use Rattle.neli_log.specs.laws.Lending.{heading_lent}
 use Rattle.neli_log.specs.declared.lending.LentDelivery.{LentDelivery}
 use Rattle.neli_log.specs.declared.lending.LentDelivery.TheVariants as lent
 use Rattle.neli_router.specs.Lending.{IsErrorOf, IsLentItem, LentItem, first_verdict, is_lent_flagged}
-use Rattle.neli_router.specs.Lending.{lent_answers, lent_end_code, lent_ends, lent_item, lent_last}
+use Rattle.neli_router.specs.Lending.{kind_answers, kind_end_code, last_of_kind, lent_answers, lent_end_code}
+use Rattle.neli_router.specs.Lending.{lent_ends, lent_item, lent_last}
 use Rattle.neli_router.specs.Lending.{lent_last_verdict, lent_single, lent_step, lent_verdict, step_by, untyped}
 use Rattle.neli_router.specs.Lending.{with_step}
 use Rattle.neli_router.specs.Rule.{ends_at, has_number, is_answer, is_single, item_of, last_item, last_item_of_payload}
@@ -94,71 +96,50 @@ failure-code s e is =
           ∙ ap (λ (x : Nlmsgerr (NlmsghdrErr ℕ (List ℕ))). x.error) (ok_is _ e a.2);
     }
 
--- the payload by the tests of its kind: type 2, an acknowledgement, capped; type 3, no byte, part of a dump
-abbrev IsForm : Bool → Bool → Bool → Bool → Bool → Bool → List ℕ → NlPayload ℕ (List ℕ) → Type 0
-IsForm true true c d z m s p = (e : Nlmsgerr (Header ℕ)) × (p ≡ payload.Ack e)
-IsForm true false true d z m s p = (e : Nlmsgerr (Header ℕ)) × (p ≡ payload.Capped e) × HasCode s e
-IsForm true false false d z m s p = (e : Nlmsgerr (NlmsghdrErr ℕ (List ℕ))) × (p ≡ payload.Err e) × HasCode s e
-IsForm false k c true true m s p = p ≡ payload.Empty
-IsForm false k c true false true s p = (e : Nlmsgerr (Unit {0})) × (p ≡ payload.DumpExtAck e) × HasCode s e
-IsForm false k c true false false s p = p ≡ payload.Payload s
-IsForm false k c false z m s p = p ≡ payload.Payload s
+-- the payload, by its kind
+abbrev IsForm : Kind → List ℕ → NlPayload ℕ (List ℕ) → Type 0
+IsForm Body s p = p ≡ payload.Payload s
+IsForm Nothing s p = p ≡ payload.Empty
+IsForm DumpEnd s p = (e : Nlmsgerr (Unit {0})) × (p ≡ payload.DumpExtAck e) × HasCode s e
+IsForm (Acknowledgement tail) s p = (e : Nlmsgerr (Header ℕ)) × (p ≡ payload.Ack e)
+IsForm (Capped tail) s p = (e : Nlmsgerr (Header ℕ)) × (p ≡ payload.Capped e) × HasCode s e
+IsForm Failure s p = (e : Nlmsgerr (NlmsghdrErr ℕ (List ℕ))) × (p ≡ payload.Err e) × HasCode s e
 
-form : (number : ℕ) (flags : NlmF) (s : List ℕ) (p : NlPayload ℕ (List ℕ)) (a k c d z m : Bool) → nat_eq number 2 ≡ a
-    → is_acknowledged s ≡ k → is_capped flags ≡ c → nat_eq number 3 ≡ d → nat_eq (length s) 0 ≡ z → is_multi flags ≡ m
-    → payload_in same all number flags s ≡ Ok p → IsForm a k c d z m s p
-form number flags s p true true c d z m ea ek ec ed ez em is =
-    let b = bind_ok (headed_in same (tail_of flags) s) _ p (rw (ea, ek) at is) in
-    (b.0, sym (ok_is (payload.Ack b.0) p b.2))
-form number flags s p true false true d z m ea ek ec ed ez em is =
-    let b = bind_ok _ (λ (e : Nlmsgerr (Header ℕ)). Ok (payload.Capped e)) p (rw (ea, ek, ec) at is) in
-    (b.0, sym (ok_is (payload.Capped b.0) p b.2), headed-code s (header_in same (drop 4 s)) _ b.0 b.1)
-form number flags s p true false false d z m ea ek ec ed ez em is =
-    let b = bind_ok (failure_in same all s) _ p (rw (ea, ek, ec) at is) in
-    (b.0, sym (ok_is (payload.Err b.0) p b.2), failure-code s b.0 b.1)
-form number flags s p false k c true true m ea ek ec ed ez em is =
-    sym (ok_is payload.Empty p (rw (ea, ed, ez) at is))
-form number flags s p false k c true false true ea ek ec ed ez em is =
-    let b = bind_ok (dump_end_in s) _ p (rw (ea, ed, ez, em) at is) in
+form : (kind : Kind) (s : List ℕ) (p : NlPayload ℕ (List ℕ)) → payload_as same all kind s ≡ Ok p → IsForm kind s p
+form Body s p is = sym (ok_is (payload.Payload s) p is)
+form Nothing s p is = sym (ok_is payload.Empty p is)
+form DumpEnd s p is =
+    let b = bind_ok (dump_end_in s) _ p is in
     (b.0, sym (ok_is (payload.DumpExtAck b.0) p b.2), dump_end-code s b.0 b.1)
-form number flags s p false k c true false false ea ek ec ed ez em is =
-    sym (ok_is (payload.Payload s) p (rw (ea, ed, ez, em) at is))
-form number flags s p false k c false z m ea ek ec ed ez em is =
-    sym (ok_is (payload.Payload s) p (rw (ea, ed) at is))
+form (Acknowledgement tail) s p is =
+    let b = bind_ok (headed_in same tail s) _ p is in
+    (b.0, sym (ok_is (payload.Ack b.0) p b.2))
+form (Capped tail) s p is =
+    let b = bind_ok _ (λ (e : Nlmsgerr (Header ℕ)). Ok (payload.Capped e)) p is in
+    (b.0, sym (ok_is (payload.Capped b.0) p b.2), headed-code s (header_in same (drop 4 s)) _ b.0 b.1)
+form Failure s p is =
+    let b = bind_ok (failure_in same all s) _ p is in
+    (b.0, sym (ok_is (payload.Err b.0) p b.2), failure-code s b.0 b.1)
 
-answers-by : (a k c d z m : Bool) (s : List ℕ) (p : NlPayload ℕ (List ℕ))
-    → IsForm a k c d z m s p → is_answer p ≡ a
-answers-by true true c d z m s p is = ap is_answer is.1
-answers-by true false true d z m s p is = ap is_answer is.1
-answers-by true false false d z m s p is = ap is_answer is.1
-answers-by false k c true true m s p is = ap is_answer is
-answers-by false k c true false true s p is = ap is_answer is.1
-answers-by false k c true false false s p is = ap is_answer is
-answers-by false k c false z m s p is = ap is_answer is
+answers-by : (kind : Kind) (s : List ℕ) (p : NlPayload ℕ (List ℕ)) → IsForm kind s p → is_answer p ≡ kind_answers kind
+answers-by Body s p is = ap is_answer is
+answers-by Nothing s p is = ap is_answer is
+answers-by DumpEnd s p is = ap is_answer is.1
+answers-by (Acknowledgement tail) s p is = ap is_answer is.1
+answers-by (Capped tail) s p is = ap is_answer is.1
+answers-by Failure s p is = ap is_answer is.1
 
--- the code at the end of a dump, where z is whether there are no bytes
-end-by : (a k c d z m : Bool) (s : List ℕ) (p : NlPayload ℕ (List ℕ))
-    → IsForm a k c d z m s p → (a ≡ true → d ≡ false) → (z ≡ true → code_or_zero s ≡ pos 0)
-    → (if d && m then code_or_zero s else pos 0) ≡ end_code p
-end-by true true c true z m s p is apart empty = absurd (let no = apart refl in cc)
-end-by true false c true z m s p is apart empty = absurd (let no = apart refl in cc)
-end-by true true c false z m s p is apart empty = sym (ap end_code is.1)
-end-by true false true false z m s p is apart empty = sym (ap end_code is.1)
-end-by true false false false z m s p is apart empty = sym (ap end_code is.1)
-end-by false k c true true true s p is apart empty = empty refl ∙ sym (ap end_code is)
-end-by false k c true true false s p is apart empty = sym (ap end_code is)
-end-by false k c true false true s p is apart empty = is.2.code ∙ sym (ap end_code is.1)
-end-by false k c true false false s p is apart empty = sym (ap end_code is)
-end-by false k c false z m s p is apart empty = sym (ap end_code is)
+-- the code at the end of a dump
+end-by : (kind : Kind) (s : List ℕ) (p : NlPayload ℕ (List ℕ)) → IsForm kind s p → kind_end_code kind s ≡ end_code p
+end-by Body s p is = sym (ap end_code is)
+end-by Nothing s p is = sym (ap end_code is)
+end-by DumpEnd s p is = is.2.code ∙ sym (ap end_code is.1)
+end-by (Acknowledgement tail) s p is = sym (ap end_code is.1)
+end-by (Capped tail) s p is = sym (ap end_code is.1)
+end-by Failure s p is = sym (ap end_code is.1)
 
 -- the item where the answers end
 module _ (needs single : Bool) (w : LentMessage ℕ) (u : Nlmsghdr ℕ (List ℕ)) (lends : Lends (message_view w) u) where
-  abbrev last_by : Bool → Bool → LentItem
-  last_by a k =
-      if a then (if k then (if needs then Ok w else Err error.UnexpectedAck)
-      else (if single then Err error.NoAck else Err (error.Answer (code_or_zero w.payload.now) w)))
-      else (if single then Err error.NoAck else Ok w)
-
   ack-last : (b : Bool) → IsLentItem (if b then Ok u else Err router.UnexpectedAck)
       (if b then Ok w else Err error.UnexpectedAck)
   ack-last true = (u, lends, refl)
@@ -175,17 +156,16 @@ module _ (needs single : Bool) (w : LentMessage ℕ) (u : Nlmsghdr ℕ (List ℕ
   error-last false item is = (u, lends, is)
 
   -- where the payload of the message is p
-  last-by : (p : NlPayload ℕ (List ℕ)) → u.payload ≡ p → (a k c d z m : Bool) → IsForm a k c d z m w.payload.now p
-      → IsLentItem (last_item_of_payload needs single u p) (last_by a k)
-  last-by p at true true c d z m is = rw is.1 (ack-last needs)
-  last-by p at true false true d z m is = rw is.1 (error-last single (Err (router.Capped is.0))
+  last-by : (p : NlPayload ℕ (List ℕ)) → u.payload ≡ p → (kind : Kind) → IsForm kind w.payload.now p
+      → IsLentItem (last_item_of_payload needs single u p) (last_of_kind kind needs single w)
+  last-by p at Body is = rw is (body-last single)
+  last-by p at Nothing is = rw is (body-last single)
+  last-by p at DumpEnd is = rw is.1 (body-last single)
+  last-by p at (Acknowledgement tail) is = rw is.1 (ack-last needs)
+  last-by p at (Capped tail) is = rw is.1 (error-last single (Err (router.Capped is.0))
       (rw (at ∙ is.1) (is.2.code, refl)))
-  last-by p at true false false d z m is = rw is.1 (error-last single (Err (router.Nlmsgerr is.0))
+  last-by p at Failure is = rw is.1 (error-last single (Err (router.Nlmsgerr is.0))
       (rw (at ∙ is.1) (is.2.code, refl)))
-  last-by p at false k c true true m is = rw is (body-last single)
-  last-by p at false k c true false true is = rw is.1 (body-last single)
-  last-by p at false k c true false false is = rw is (body-last single)
-  last-by p at false k c false z m is = rw is (body-last single)
 
 -- ---- a lent message, and the message that it is
 
@@ -193,8 +173,7 @@ module _ (needs single : Bool) (w : LentMessage ℕ) (u : Nlmsghdr ℕ (List ℕ
 pub record IsOne (m : Lent ℕ) (u : Nlmsghdr ℕ (List ℕ)) : Type 0 where
   pub header : m.0 ≡ u.header
   pub payload : payload_in same all m.0.message_type m.0.flags m.1 ≡ Ok u.payload
-  pub form : IsForm (nat_eq m.0.message_type 2) (is_acknowledged m.1) (is_capped m.0.flags)
-      (nat_eq m.0.message_type 3) (nat_eq (length m.1) 0) (is_multi m.0.flags) m.1 u.payload
+  pub form : IsForm (lent_kind same m) m.1 u.payload
 
 pub one : (m : Lent ℕ) (u : Nlmsghdr ℕ (List ℕ)) → Lends m u → IsOne m u
 one m u is =
@@ -204,27 +183,15 @@ one m u is =
     record {
       header = ap (λ (x : Header ℕ × NlPayload ℕ (List ℕ)). x.0) both;
       payload = same_payload;
-      form = form m.0.message_type m.0.flags m.1 u.payload (nat_eq m.0.message_type 2) (is_acknowledged m.1)
-          (is_capped m.0.flags) (nat_eq m.0.message_type 3) (nat_eq (length m.1) 0) (is_multi m.0.flags) refl refl refl
-          refl refl refl same_payload;
+      form = form (lent_kind same m) m.1 u.payload same_payload;
     }
-
-two_three : (n : ℕ) → nat_eq n 2 ≡ true → nat_eq n 3 ≡ false
-two_three n h = grind (arith, nat_tests)
-
-empty_code : (s : List ℕ) → nat_eq (length s) 0 ≡ true → code_or_zero s ≡ pos 0
-empty_code s h = (let short : nat_lt (length s) 4 ≡ true = grind (arith, nat_tests) in rw short refl)
 
 module _ (m : Lent ℕ) (u : Nlmsghdr ℕ (List ℕ)) (lends : Lends m u) where
   pub answers-is : is_answer u.payload ≡ lent_answers m
-  answers-is = answers-by (nat_eq m.0.message_type 2) (is_acknowledged m.1) (is_capped m.0.flags)
-      (nat_eq m.0.message_type 3) (nat_eq (length m.1) 0) (is_multi m.0.flags) m.1 u.payload
-      (one m u lends).form
+  answers-is = answers-by (lent_kind same m) m.1 u.payload (one m u lends).form
 
   pub end-is : lent_end_code m ≡ end_code u.payload
-  end-is = end-by (nat_eq m.0.message_type 2) (is_acknowledged m.1) (is_capped m.0.flags)
-      (nat_eq m.0.message_type 3) (nat_eq (length m.1) 0) (is_multi m.0.flags) m.1 u.payload
-      (one m u lends).form (two_three m.0.message_type) (empty_code m.1)
+  end-is = end-by (lent_kind same m) m.1 u.payload (one m u lends).form
 
   pub single-is : (numbered : Bool) → lent_single numbered m ≡ is_single same numbered (Ok u)
   single-is numbered = rw (answers-is, ← (one m u lends).header) refl
@@ -241,9 +208,8 @@ module _ (m : Lent ℕ) (u : Nlmsghdr ℕ (List ℕ)) (lends : Lends m u) where
 module _ (w : LentMessage ℕ) (u : Nlmsghdr ℕ (List ℕ)) (lends : Lends (message_view w) u)
     (needs numbered single : Bool) where
   last_lent : IsLentItem (last_item needs single (Ok u)) (lent_last needs single w)
-  last_lent = last-by needs single w u lends u.payload refl (nat_eq w.header.message_type 2) (is_acknowledged w.payload.now)
-      (is_capped w.header.flags) (nat_eq w.header.message_type 3) (nat_eq (length w.payload.now) 0)
-      (is_multi w.header.flags) (one (message_view w) u lends).form
+  last_lent = last-by needs single w u lends u.payload refl (lent_kind same (message_view w))
+      (one (message_view w) u lends).form
 
   pub message_lent : IsLentItem (item_of same needs numbered single (Ok u))
       (lent_item needs numbered single (lent.Message w))

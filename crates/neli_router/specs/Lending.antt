@@ -3,12 +3,14 @@ use Rattle.std.specs.Prelude.{◌≡◌, ℕ, ℤ, pos, Bool, true, false, not, 
 use Rattle.std.specs.Prelude.{List, ◌<◌, Result, Ok, Err}
 use Rattle.neli_wire.specs.declared.errors.DeError.{DeError}
 use Rattle.neli_reader.specs.Framed.{Nlmsghdr}
-use Rattle.neli_reader.specs.Kinds.{is_acknowledged, is_multi}
+use Rattle.neli_reader.specs.Kind.{Kind}
+use Rattle.neli_reader.specs.Kind.TheVariants.{Body, Nothing, DumpEnd, Acknowledgement}
+use Rattle.neli_reader.specs.Kinds.{is_multi}
 use Rattle.neli_reader.specs.NlPayload.{NlPayload}
 use Rattle.neli_reader.specs.NlPayload.TheVariants as payload
 use Rattle.neli_reader.specs.Retyping.{IsTyped, IsTypedError}
 use Rattle.neli_reader.specs.RouterError.TheVariants as router
-use Rattle.neli_lent.specs.Messages.{Lent, code_or_zero, message_view}
+use Rattle.neli_lent.specs.Messages.{Lent, code_or_zero, lent_kind, message_view}
 use Rattle.neli_lent.specs.declared.message.LentMessage.{LentMessage}
 use Rattle.neli_deliveries.specs.declared.delivery.Delivery.{Delivery}
 use Rattle.neli_deliveries.specs.declared.delivery.Delivery.TheVariants as delivery
@@ -64,9 +66,15 @@ IsLentReply item r = ⊥
 
 -- ---- the same by the header and the payload's bytes, as the code decides it
 
--- a message of type 2 (NLMSG_ERROR) answers
+-- an acknowledgement, or an error of the other side
+abbrev pub kind_answers : Kind → Bool
+kind_answers Body = false
+kind_answers Nothing = false
+kind_answers DumpEnd = false
+kind_answers kind = true
+
 abbrev pub lent_answers : Lent ℕ → Bool
-lent_answers m = m.0.message_type == 2
+lent_answers m = kind_answers (lent_kind (λ n. n) m)
 
 abbrev pub lent_single : Bool → Lent ℕ → Bool
 lent_single numbered m =
@@ -75,12 +83,14 @@ lent_single numbered m =
 abbrev pub lent_ends : Bool → Bool → Bool → Lent ℕ → Bool
 lent_ends needs numbered after m = lent_answers m || (if needs then after else lent_single numbered m)
 
+abbrev pub last_of_kind : Kind → Bool → Bool → LentMessage ℕ → LentItem
+last_of_kind (Acknowledgement tail) needs after m = if needs then Ok m else Err error.UnexpectedAck
+last_of_kind kind needs after m =
+    if after then Err error.NoAck
+    else (if kind_answers kind then Err (error.Answer (code_or_zero m.payload.now) m) else Ok m)
+
 abbrev pub lent_last : Bool → Bool → LentMessage ℕ → LentItem
-lent_last needs after m =
-    if lent_answers (message_view m) then (if is_acknowledged m.payload.now
-    then (if needs then Ok m else Err error.UnexpectedAck)
-    else (if after then Err error.NoAck else Err (error.Answer (code_or_zero m.payload.now) m)))
-    else (if after then Err error.NoAck else Ok m)
+lent_last needs after m = last_of_kind (lent_kind (λ n. n) (message_view m)) needs after m
 
 abbrev pub lent_item : Bool → Bool → Bool → LentDelivery → LentItem
 lent_item needs numbered after (lent.Message m) =
@@ -88,8 +98,12 @@ lent_item needs numbered after (lent.Message m) =
 lent_item needs numbered after (lent.Stray m) = Err (error.BadSeqOrPid m)
 lent_item needs numbered after (lent.Fault e) = Err (error.Socket e)
 
+abbrev pub kind_end_code : Kind → List ℕ → ℤ
+kind_end_code DumpEnd s = code_or_zero s
+kind_end_code kind s = pos 0
+
 abbrev pub lent_end_code : Lent ℕ → ℤ
-lent_end_code m = if (m.0.message_type == 3) && is_multi m.0.flags then code_or_zero m.1 else pos 0
+lent_end_code m = kind_end_code (lent_kind (λ n. n) m) m.1
 
 abbrev pub lent_error_verdict : LentError → Verdict
 lent_error_verdict (error.Answer code m) = stands.Failed code

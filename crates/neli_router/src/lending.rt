@@ -1,12 +1,11 @@
 //! Lent reads: a handle's next item where the log keeps its bytes, and the step past it.
 
 ghost use Rattle.std.specs.Prelude.{true, false, ◌≡◌, ◌||◌, ◌∷◌, [], List, None, Some, Err, option_map};
-ghost use Rattle.neli_reader.specs.Kinds.{is_acknowledged};
 ghost use Rattle.neli_lent.specs.Messages.{message_view};
 ghost use Rattle.neli_deliveries.specs.Lists.{SameListsBut};
 ghost use Rattle.neli_deliveries.specs.declared.delivery.Delivery.{Delivery as Waiting};
 ghost use Rattle.neli_log.specs.Log.{pending_of};
-ghost use Rattle.neli_router.specs.Lending.{IsLentReply, lent_end_code, lent_ends, lent_error_verdict};
+ghost use Rattle.neli_router.specs.Lending.{IsLentReply, lent_answers, lent_end_code, lent_ends, lent_error_verdict};
 ghost use Rattle.neli_router.specs.Lending.{lent_item, lent_last, lent_single, lent_step, lent_verdict};
 ghost use Rattle.neli_router.specs.Lending.{is_lent_flagged, untyped, with_step};
 ghost use Rattle.neli_router.specs.Reads.{GoesPast, item_for};
@@ -19,14 +18,13 @@ ghost use Rattle.neli_router.specs.declared.lending.LentReply.TheVariants as rep
 use crate::verdict::{fault_verdict, is_last};
 use crate::{Deliveries, HandleState, Heard, Loss, NlRouter, NlRouterReceiverHandle, Verdict};
 use bitflags::Flags;
-use byteorder::{ByteOrder, LittleEndian};
 use indexmap::IndexMap;
-use neli_consts::{NLMSG_DONE, NLMSG_ERROR, NlmF};
+use neli_consts::{NLMSG_DONE, NlmF};
 use neli_deliveries::Heading;
 use neli_lent::LentMessage;
 use neli_log::hints::{Hints, put, value_of};
 use neli_log::{LentDelivery, Log};
-use neli_reader::SocketError;
+use neli_reader::{Kind, SocketError};
 
 /// The error in place of a lent message: the [`RouterError`](neli_reader::RouterError) of that name, with nothing of it
 /// copied.
@@ -58,21 +56,23 @@ pub enum LentReply<'b> {
     Waits,
 }
 
-/// Whether the payload of an answer is an acknowledgement, and no error.
-fn is_acknowledgement(payload: &[u8]) -> bool
-    ensures { result ≡ is_acknowledged payload.now }
+/// Whether a lent message is an acknowledgement or an error.
+fn is_answer(message: &LentMessage<'_, u16>) -> bool
+    ensures { result ≡ lent_answers (message_view message.now) }
 {
-    payload.len() >= 20 && LittleEndian::read_u32(payload) == 0
+    matches!(
+        message.kind(),
+        Kind::Acknowledgement(_) | Kind::Capped(_) | Kind::Failure
+    )
 }
 
 /// Whether a lent message is a whole reply to a request, or the last message of one.
 fn is_single(numbered: bool, message: &LentMessage<'_, u16>) -> bool
     ensures { result ≡ lent_single numbered (message_view message.now) }
 {
-    let number = *message.nl_type();
     numbered
-        && number != NLMSG_ERROR
-        && (!message.nl_flags().contains(NlmF::MULTI) || number == NLMSG_DONE)
+        && !is_answer(message)
+        && (!message.nl_flags().contains(NlmF::MULTI) || *message.nl_type() == NLMSG_DONE)
 }
 
 /// Whether a handle's answers end at this message.
@@ -80,7 +80,7 @@ fn ends(state: HandleState, message: &LentMessage<'_, u16>) -> bool
     ensures { result ≡ lent_ends state.needs_ack (has_number state.number) state.single_given
         (message_view message.now) }
 {
-    *message.nl_type() == NLMSG_ERROR
+    is_answer(message)
         || if state.needs_ack {
             state.single_given
         } else {
@@ -95,24 +95,12 @@ fn last_item<'b>(
 ) -> Result<LentMessage<'b, u16>, LentError<'b>>
     ensures { result ≡ lent_last state.needs_ack state.single_given message.entry }
 {
-    if *message.nl_type() != NLMSG_ERROR {
-        return if state.single_given {
-            Err(LentError::NoAck)
-        } else {
-            Ok(message)
-        };
-    }
-    let payload = message.nl_payload();
-    if is_acknowledgement(payload) {
-        if state.needs_ack {
-            Ok(message)
-        } else {
-            Err(LentError::UnexpectedAck)
-        }
-    } else if state.single_given {
-        Err(LentError::NoAck)
-    } else {
-        Err(LentError::Answer(message.code(), message))
+    match message.kind() {
+        Kind::Acknowledgement(_) if state.needs_ack => Ok(message),
+        Kind::Acknowledgement(_) => Err(LentError::UnexpectedAck),
+        _ if state.single_given => Err(LentError::NoAck),
+        Kind::Capped(_) | Kind::Failure => Err(LentError::Answer(message.code(), message)),
+        _ => Ok(message),
     }
 }
 
@@ -141,10 +129,9 @@ pub(crate) fn item_of<'b>(
 fn end_code(message: &LentMessage<'_, u16>) -> i32
     ensures { result ≡ lent_end_code (message_view message.now) }
 {
-    if *message.nl_type() == NLMSG_DONE && message.nl_flags().contains(NlmF::MULTI) {
-        message.code()
-    } else {
-        0
+    match message.kind() {
+        Kind::DumpEnd => message.code(),
+        _ => 0,
     }
 }
 
