@@ -1,11 +1,13 @@
 -- Answers: errors, acknowledgements and the ends of dumps (RFC 3549 section 2.3.2.2).
-use Rattle.std.specs.Prelude.{ℕ, ◌-◌, ◌==◌, ◌||◌, ◌&&◌, min, Bool, true, false, if◌then◌else◌, List}
-use Rattle.std.specs.Prelude.{[], drop, length, take, Option, Some, None}
+use Rattle.std.specs.Prelude.{ℕ, ◌-◌, min, List, [], drop, length, take, Option, Some, None}
 use Rattle.std.specs.Borrow.{Bor}
 use Rattle.std.specs.Option.{option_map}
-use Rattle.neli_consts.specs.declared.nlm_f.NlmF.{NlmF}
 use Rattle.neli_wire.specs.Sizes.{align}
-use Rattle.neli_msg.specs.Kinds.{has_attributes, is_acknowledged, is_capped, is_multi}
+use Rattle.neli_msg.specs.declared.kind.Kind.{Kind}
+use Rattle.neli_msg.specs.declared.kind.Kind.TheVariants.{DumpEnd, Acknowledgement, Capped, Failure}
+use Rattle.neli_msg.specs.declared.kind.Tail.{Tail}
+use Rattle.neli_msg.specs.declared.kind.Tail.TheVariants.{Unread, Attributes}
+use Rattle.neli_msg.specs.Kinds.{kind_of}
 use Rattle.neli_tables_walk.specs.declared.head.Head.{Head}
 use Rattle.neli_print.specs.declared.answer.Parts.{Parts}
 use Rattle.neli_print.specs.declared.head.Header.{Header}
@@ -31,10 +33,10 @@ bare rest = (None, None, None, rest)
 abbrev pub listed : List ℕ → PartsSeen
 listed attributes = (None, None, Some attributes, [])
 
--- a request's header, and attributes behind it if there is a list of them
-abbrev pub headed : Header → Bool → List ℕ → PartsSeen
-headed request true behind = (Some request, None, Some behind, [])
-headed request false behind = (Some request, None, None, behind)
+-- a request's header, and the tail behind it
+abbrev pub headed : Header → Tail → List ℕ → PartsSeen
+headed request Attributes behind = (Some request, None, Some behind, [])
+headed request Unread behind = (Some request, None, None, behind)
 
 -- the bytes of a request's body that are echoed: as many as it states behind its header's 16, at
 -- most all
@@ -47,34 +49,24 @@ whole request echoed =
     let size = echoed_size request.length echoed in
     (Some request, Some (take size echoed), Some (drop (align size) echoed), [])
 
-abbrev pub headed_in : Option Header → Bool → List ℕ → PartsSeen
-headed_in None is_listed behind = bare behind
-headed_in (Some request) is_listed behind = headed request is_listed (drop 16 behind)
+-- a request, of which the header is echoed, with this tail, or all
+abbrev pub request_with : Option Header → Option Tail → List ℕ → PartsSeen
+request_with None tail behind = bare behind
+request_with (Some request) (Some tail) behind = headed request tail (drop 16 behind)
+request_with (Some request) None behind = whole request (drop 16 behind)
 
-abbrev pub whole_in : Option Header → List ℕ → PartsSeen
-whole_in None behind = bare behind
-whole_in (Some request) behind = whole request (drop 16 behind)
+abbrev pub request_parts : ℕ → Option Tail → List ℕ → PartsSeen
+request_parts protocol tail behind = request_with (header_in protocol behind) tail behind
 
--- attributes follow the header of a request that is echoed alone
-abbrev pub is_listed : NlmF → Bool
-is_listed flags = is_capped flags && has_attributes flags
+-- by its kind
+abbrev pub kind_parts : Kind → ℕ → List ℕ → PartsSeen
+kind_parts (Acknowledgement tail) protocol behind = request_parts protocol (Some tail) behind
+kind_parts (Capped tail) protocol behind = request_parts protocol (Some tail) behind
+kind_parts Failure protocol behind = request_parts protocol None behind
+kind_parts DumpEnd protocol behind = listed behind
+kind_parts kind protocol behind = bare behind
 
--- an acknowledgement, and an error that is capped, have the header of the request alone; other
--- errors all of it. Each is behind a code of four bytes
-abbrev pub error_parts : Head → List ℕ → PartsSeen
-error_parts head payload =
-    if is_acknowledged payload || is_capped head.flags
-    then headed_in (header_in head.protocol (drop 4 payload)) (is_listed head.flags)
-    (drop 4 payload)
-    else whole_in (header_in head.protocol (drop 4 payload)) (drop 4 payload)
-
--- the end of a dump is one of several messages, and has attributes
-abbrev pub end_parts : Head → List ℕ → PartsSeen
-end_parts head payload =
-    if is_multi head.flags then listed (drop 4 payload) else bare (drop 4 payload)
-
--- what an answer has behind its code: 2 is NLMSG_ERROR, 3 NLMSG_DONE
+-- what an answer has behind its code of four bytes
 abbrev pub answer_parts : Head → List ℕ → PartsSeen
 answer_parts head payload =
-    if head.message_type == 2 then error_parts head payload
-    else (if head.message_type == 3 then end_parts head payload else bare (drop 4 payload))
+    kind_parts (kind_of head.message_type head.flags payload) head.protocol (drop 4 payload)

@@ -1,15 +1,13 @@
 //! What an answer has: an error, an acknowledgement, or the end of a dump.
 
 ghost use Rattle.std.specs.Prelude.{◌≡◌, ◌≤◌, length};
-ghost use Rattle.neli_print.specs.Answers.{answer_parts, bare, echoed_size, error_parts, headed};
-ghost use Rattle.neli_print.specs.Answers.{is_listed, listed, parts_view, whole};
+ghost use Rattle.neli_print.specs.Answers.{answer_parts, bare, echoed_size, headed, listed, parts_view};
+ghost use Rattle.neli_print.specs.Answers.{request_parts, whole};
 
 use crate::head::Header;
 use crate::item::front_of;
 use crate::rests::bytes_from;
-use bitflags::Flags;
-use byteorder::{ByteOrder, LittleEndian};
-use neli_consts::{NLMSG_DONE, NLMSG_ERROR, NlmF};
+use neli_msg::{Kind, Tail};
 use neli_tables_walk::Head;
 use neli_wire::implementing::padded_length;
 
@@ -54,19 +52,17 @@ impl<'b> Parts<'b> {
         }
     }
 
-    /// A request's header, and attributes behind it if there is a list of them.
-    fn headed(request: Header, is_listed: bool, behind: &'b [u8]) -> Parts<'b>
-        ensures { parts_view result ≡ headed request is_listed behind.now }
+    /// A request's header, and the tail behind it.
+    fn headed(request: Header, tail: Tail, behind: &'b [u8]) -> Parts<'b>
+        ensures { parts_view result ≡ headed request tail behind.now }
     {
-        if is_listed {
-            return Parts {
-                request: Some(request),
-                ..Parts::listed(behind)
-            };
-        }
+        let parts = match tail {
+            Tail::Attributes => Parts::listed(behind),
+            Tail::Unread => Parts::bare(behind),
+        };
         Parts {
             request: Some(request),
-            ..Parts::bare(behind)
+            ..parts
         }
     }
 
@@ -92,27 +88,17 @@ fn echoed_size(stated: u32, echoed: &[u8]) -> usize
         .min(echoed.len())
 }
 
-/// Whether attributes follow the header of a request that is echoed alone.
-fn has_attributes(flags: NlmF) -> bool
-    ensures { result ≡ is_listed flags }
+/// What an error or an acknowledgement has: the header of a request with this tail, or all of it.
+fn request_parts<'b>(protocol: u16, tail: Option<Tail>, behind: &'b [u8]) -> Parts<'b>
+    ensures { parts_view result ≡ request_parts protocol tail behind.now }
 {
-    flags.contains(NlmF::CAPPED) && flags.contains(NlmF::ACK_TLVS)
-}
-
-/// What an error or an acknowledgement has.
-fn error_parts<'b>(head: Head, payload: &'b [u8]) -> Parts<'b>
-    requires { 4 ≤ length payload.now }
-    ensures { parts_view result ≡ error_parts head payload.now }
-{
-    let behind = &payload[4..];
-    let Some(request) = Header::read(head.protocol, behind) else {
+    let Some(request) = Header::read(protocol, behind) else {
         return Parts::bare(behind);
     };
     let echoed = bytes_from(behind, HEADER_SIZE);
-    if LittleEndian::read_u32(payload) == 0 || head.flags.contains(NlmF::CAPPED) {
-        Parts::headed(request, has_attributes(head.flags), echoed)
-    } else {
-        Parts::whole(request, echoed)
+    match tail {
+        Some(tail) => Parts::headed(request, tail, echoed),
+        None => Parts::whole(request, echoed),
     }
 }
 
@@ -121,9 +107,12 @@ pub(crate) fn answer_parts<'b>(head: Head, payload: &'b [u8]) -> Parts<'b>
     requires { 4 ≤ length payload.now }
     ensures { parts_view result ≡ answer_parts head payload.now }
 {
-    match head.message_type {
-        NLMSG_ERROR => error_parts(head, payload),
-        NLMSG_DONE if head.flags.contains(NlmF::MULTI) => Parts::listed(&payload[4..]),
-        _ => Parts::bare(&payload[4..]),
+    let behind = &payload[4..];
+    match Kind::of(head.message_type, head.flags, payload) {
+        Kind::Acknowledgement(tail) => request_parts(head.protocol, Some(tail), behind),
+        Kind::Capped(tail) => request_parts(head.protocol, Some(tail), behind),
+        Kind::Failure => request_parts(head.protocol, None, behind),
+        Kind::DumpEnd => Parts::listed(behind),
+        Kind::Body | Kind::Nothing => Parts::bare(behind),
     }
 }
