@@ -3,4 +3,6 @@
 
 pub use neli_lent::FromSpan;
 pub use neli_msg::laws as laws_of_messages;
-pub use neli_reader::{NlPayload, Nlmsghdr, NlmsghdrBuilder, NlmsghdrBuilderError, laws};
+pub use neli_reader::{
+    Kind, NlPayload, Nlmsghdr, NlmsghdrBuilder, NlmsghdrBuilderError, Tail, laws,
+};
