@@ -3,7 +3,7 @@
 ghost use Rattle.std.specs.Prelude.{◌≡◌, ◌≢◌, ◌≤◌, true, false, IfErr, IfOk, IfSome, IsErr};
 ghost use Rattle.std.specs.Prelude.{IsNone, IsOk};
 ghost use Rattle.std.specs.Prelude.{drop, length, min};
-ghost use Rattle.neli_reader.specs.Answers.{code_in, echo_end, echoed_in};
+ghost use Rattle.neli_reader.specs.Answers.{code_in, echo_end, echoed_in, tail_at};
 ghost use Rattle.neli_reader.specs.Headers.{header_in};
 ghost use Rattle.neli_c_parts.specs.Codes.{ok};
 ghost use Rattle.neli_c_parts.specs.AnswersShown.{answer_code, attributes_begin, echo_view, no_header};
@@ -11,19 +11,13 @@ ghost use Rattle.neli_c_parts.specs.AnswersShown.{answer_code, attributes_begin,
 use crate::code::{KIND, LENGTH, SHORT};
 use crate::message::NeliWalk;
 use byteorder::{ByteOrder, LittleEndian};
-use neli_consts::{NLMSG_DONE, NLMSG_ERROR};
-use neli_wire::alignto;
+use neli_consts::NlmF;
+use neli_reader::{Kind, Tail};
+use neli_wire::{Constant, alignto};
 use std::cmp::min;
 
 /// The size of a code and the echoed header, in bytes (`struct nlmsgerr` of `linux/netlink.h`).
 const ANSWER_SIZE: usize = 20;
-
-/// The flags MULTI, CAPPED and ACK_TLVS of a message (`linux/netlink.h`).
-const MULTI: u16 = 2;
-
-const CAPPED: u16 = 0x100;
-
-const ACK_TLVS: u16 = 0x200;
 
 /// An answer: its code, the header of the request, and the place of its attributes.
 #[repr(C)]
@@ -53,6 +47,16 @@ fn after_echo(payload: &[u8]) -> Option<usize>
     Some(min(ANSWER_SIZE + alignto(len - 16), payload.len()))
 }
 
+/// The start of the attributes of an answer that echoes only a header.
+fn tail_begin(tail: Tail, payload: &[u8]) -> usize
+    ensures { result ≡ tail_at tail payload.now }
+{
+    match tail {
+        Tail::Attributes => ANSWER_SIZE,
+        Tail::Unread => payload.len(),
+    }
+}
+
 /// The start of an answer's attributes in its payload; else the code of why it is none.
 pub fn attributes_begin(nl_type: u16, flags: u16, payload: &[u8]) -> Result<usize, i32>
     ensures begin { IfOk result (λ n. (answer_code nl_type flags payload.now ≡ ok)
@@ -62,24 +66,14 @@ pub fn attributes_begin(nl_type: u16, flags: u16, payload: &[u8]) -> Result<usiz
     ensures refused { IfErr result (λ e. (answer_code nl_type flags payload.now ≡ e)
         × (e ≢ ok)) }
 {
-    if nl_type == NLMSG_DONE && flags & MULTI == MULTI && !payload.is_empty() {
-        return if payload.len() < 4 { Err(SHORT) } else { Ok(4) };
+    match Kind::of(nl_type, NlmF::from_wire(flags), payload) {
+        Kind::Body | Kind::Nothing => Err(KIND),
+        Kind::DumpEnd if payload.len() < 4 => Err(SHORT),
+        Kind::DumpEnd => Ok(4),
+        _ if payload.len() < ANSWER_SIZE => Err(SHORT),
+        Kind::Acknowledgement(tail) | Kind::Capped(tail) => Ok(tail_begin(tail, payload)),
+        Kind::Failure => after_echo(payload).ok_or(LENGTH),
     }
-    if nl_type != NLMSG_ERROR {
-        return Err(KIND);
-    }
-    if payload.len() < ANSWER_SIZE {
-        return Err(SHORT);
-    }
-    if LittleEndian::read_u32(payload) == 0 || flags & CAPPED == CAPPED {
-        let has_attributes = flags & CAPPED == CAPPED && flags & ACK_TLVS == ACK_TLVS;
-        return Ok(if has_attributes {
-            ANSWER_SIZE
-        } else {
-            payload.len()
-        });
-    }
-    after_echo(payload).ok_or(LENGTH)
 }
 
 /// The code and the echoed header of an answer, and the place of its attributes.
