@@ -6,8 +6,10 @@ use Rattle.std.proofs.lemmas.Map.Steps.{length-le_from_keys}
 use Rattle.std.specs.Cmp.{nat_eq_equiv}
 use Rattle.std.specs.List.{IsDistinct, AllByRecursion, list_any}
 use Rattle.std.specs.Map.{lookup}
+use Rattle.std.specs.Option.{option_map}
 use Rattle.std.specs.Prelude.{nat_eq, is_some, ◌||◌}
 use Rattle.neli_session.specs.Sends.{number_after}
+use Rattle.neli_session.proofs.Lines.{part-there}
 
 -- within a round, a number is the sum, or that less the round
 low : (start k : ℕ) → start + k < 4294967296 → number_after start k ≡ start + k
@@ -101,6 +103,14 @@ module _ {X : Type 0} (es : List (ℕ × X)) (start : ℕ) where
         let len = run-length start k in
         absurd (omega (arith, few, len, more))
   ]
+
+-- the same by a part of what is there
+pub parts-in-use : {X Y : Type 0} (f : X → Y) (es : List (ℕ × X)) (start k : ℕ) → start < 4294967296 → length es < k
+    → ((j : ℕ) → j < k → is_some (option_map f (lookup (nat_eq (number_after start j)) es)) ≡ true)
+    → (q : ℕ) → q < 4294967296 → is_some (option_map f (lookup (nat_eq q) es)) ≡ true
+parts-in-use f es start k s more all q fits =
+    part-there f (lookup (nat_eq q) es)
+    ∙ all-in-use es start k s more (λ j e. sym (part-there f (lookup (nat_eq (number_after start j)) es)) ∙ all j e) q fits
 
 -- the number after one of them
 pub one-more : (start k : ℕ) → number_after (number_after start k) 1 ≡ number_after start (k + 1)

@@ -4,9 +4,11 @@ use Rattle.std.proofs.lemmas.Bool.{eqb-true}
 use Rattle.std.proofs.lemmas.Map.Steps.{length-le_from_keys}
 use Rattle.std.specs.Cmp.{nat_eq_equiv}
 use Rattle.std.specs.List.{IsDistinct, AllByRecursion, list_any}
-use Rattle.std.specs.Option.{option_map, IsSome}
+use Rattle.std.specs.Option.{option_map}
 use Rattle.std.specs.Prelude.{nat_eq, is_some, ◌==◌, ◌||◌, if◌then◌else◌}
 use Rattle.neli_session.specs.declared.line.Link.{Link}
+use Rattle.neli_session.specs.declared.line.Place.{Place}
+use Rattle.neli_session.specs.Requests.{place_of}
 use Rattle.neli_session.specs.Lines.{AreApart, AreLinked, IsLine, end_with, first_in, has_place, is_in, last_after, last_in, link_at, link_if}
 use Rattle.neli_session.specs.Lines.{link_of, next_by, walk, with_after, with_before, without}
 
@@ -64,7 +66,7 @@ last-stands m (n ∷ ns) l e = go (m == l) (last-stands n ns l e)
 
 -- ---- the walk along a line
 
-walk_linked : (links : List (ℕ × Link)) (before : Option ℕ) (ns : List ℕ) (k : ℕ) → AreLinked links before ns → length ns ≤ k
+walk_linked : (links : List (ℕ × Place)) (before : Option ℕ) (ns : List ℕ) (k : ℕ) → AreLinked links before ns → length ns ≤ k
     → walk links k (first_in ns) ≡ ns
 walk_linked links before [] zero linked fits = refl
 walk_linked links before [] (suc k) linked fits = refl
@@ -75,7 +77,7 @@ walk_linked links before (n ∷ ns) (suc k) linked fits =
     (ap (λ (o : Option Link). walk links k (next_by o)) linked.0 ∙ walk_linked links (Some n) ns k linked.1 fits')
 
 -- each number of a line has a place
-pub placed : (links : List (ℕ × Link)) (before : Option ℕ) (ns : List ℕ) (q : ℕ) → AreLinked links before ns → is_in q ns ≡ true
+pub placed : (links : List (ℕ × Place)) (before : Option ℕ) (ns : List ℕ) (q : ℕ) → AreLinked links before ns → is_in q ns ≡ true
     → has_place q links ≡ true
 placed links before [] q linked e = cc
 placed links before (n ∷ ns) q linked e = go (n == q) refl (placed links (Some n) ns q linked.1) e
@@ -104,20 +106,22 @@ unfolding IsDistinct
 distinct [] apart = tt
 distinct (n ∷ ns) apart = (none-equal n ns apart.0, distinct ns apart.1)
 
-some : {X : Type 0} (o : Option X) → is_some o ≡ true → IsSome o
-some o e = e
+-- a part of something is there if the whole is
+pub part-there : {X Y : Type 0} (f : X → Y) (o : Option X) → is_some (option_map f o) ≡ is_some o
+part-there f None = refl
+part-there f (Some x) = refl
 
 -- a line is the walk along it
-pub row-walk : (links : List (ℕ × Link)) (first last : Option ℕ) (ns : List ℕ) → IsLine links first last ns
+pub row-walk : (links : List (ℕ × Place)) (first last : Option ℕ) (ns : List ℕ) → IsLine links first last ns
     → walk links (length links) first ≡ ns
 row-walk links first last ns line =
     let fits : length ns ≤ length links = length-le_from_keys nat_eq_equiv ns links (distinct ns line.apart)
-    (λ q e. some (link_of q links) (placed links None ns q line.linked (sym (is_in-any q ns) ∙ e))) in
+    (λ q e. sym (part-there (λ p. p.link) (place_of q links)) ∙ placed links None ns q line.linked (sym (is_in-any q ns) ∙ e)) in
     ap (λ (o : Option ℕ). walk links (length links) o) line.first_is ∙ walk_linked links None ns (length links) line.linked fits
 
 -- ---- the same links
 
-pub same-linked : (links ks : List (ℕ × Link)) (before : Option ℕ) (ns : List ℕ)
+pub same-linked : (links ks : List (ℕ × Place)) (before : Option ℕ) (ns : List ℕ)
     → ((q : ℕ) → is_in q ns ≡ true → link_of q ks ≡ link_of q links) → AreLinked links before ns → AreLinked ks before ns
 same-linked links ks before [] same linked = tt
 same-linked links ks before (n ∷ ns) same linked = (
@@ -130,7 +134,7 @@ same-linked links ks before (n ∷ ns) same linked = (
     either false b e = e
 
 -- the same line, if what stands in it has the same links
-pub same-line : (links ks : List (ℕ × Link)) (first last : Option ℕ) (ns : List ℕ)
+pub same-line : (links ks : List (ℕ × Place)) (first last : Option ℕ) (ns : List ℕ)
     → ((q : ℕ) → is_in q ns ≡ true → link_of q ks ≡ link_of q links) → IsLine links first last ns → IsLine ks first last ns
 same-line links ks first last ns same line = record {
   linked = same-linked links ks None ns same line.linked;
@@ -158,7 +162,7 @@ behind m q ns e = go (m == q) e
     go false e = e
 
 -- the line with a number more at its end
-linked-more : (links ks : List (ℕ × Link)) (before : Option ℕ) (ns : List ℕ) (n : ℕ) → AreLinked links before ns → AreApart ns
+linked-more : (links ks : List (ℕ × Place)) (before : Option ℕ) (ns : List ℕ) (n : ℕ) → AreLinked links before ns → AreApart ns
     → is_in n ns ≡ false
     → ((q : ℕ) → is_in q ns ≡ true
     → link_of q ks ≡ link_if (last_after before ns) (with_after (Some n)) q (link_of q links))
@@ -204,7 +208,7 @@ no-last [] q f o out = refl
 no-last (n ∷ ns) q f o out = not-last n ns q f o out
 
 -- a number joins a line
-pub line-more : (links ks : List (ℕ × Link)) (first last : Option ℕ) (ns : List ℕ) (n : ℕ) → IsLine links first last ns
+pub line-more : (links ks : List (ℕ × Place)) (first last : Option ℕ) (ns : List ℕ) (n : ℕ) → IsLine links first last ns
     → is_in n ns ≡ false → has_place n links ≡ true
     → ((q : ℕ) → link_of q ks ≡ link_if last (with_after (Some n)) q
     (link_at n (λ _. record { before = last; after = None }) q (link_of q links)))
@@ -242,7 +246,7 @@ split n (m ∷ ms) e = go (m == n) refl (split n ms) e
         (m ∷ at.0, at.1, ap (λ (ks : List ℕ). m ∷ ks) at.2, ap (λ (b : Bool). b || is_in n at.0) other ∙ at.3)
 
 -- its link
-link-there : (links : List (ℕ × Link)) (before : Option ℕ) (ps : List ℕ) (n : ℕ) (ys : List ℕ)
+link-there : (links : List (ℕ × Place)) (before : Option ℕ) (ps : List ℕ) (n : ℕ) (ys : List ℕ)
     → AreLinked links before (ps ++ n ∷ ys) → link_of n links ≡ Some (record { before = last_after before ps; after = first_in ys })
 link-there links before [] n ys linked = linked.0
 link-there links before (p ∷ ps) n ys linked = link-there links (Some p) ps n ys linked.1
@@ -282,7 +286,7 @@ one-between q (p ∷ ps) n ys e = go (p == q) (one-between q ps n ys) e
     go true rest e = refl
     go false rest e = rest e
 
-module _ (links ks : List (ℕ × Link)) (n : ℕ) where
+module _ (links ks : List (ℕ × Place)) (n : ℕ) where
   -- the numbers after it follow what is before it
   from-next : (before : Option ℕ) (ys : List ℕ) → AreLinked links (Some n) ys → AreApart ys
       → ((q : ℕ) (f : Link → Link) (o : Option Link) → is_in q ys ≡ true → link_if before f q o ≡ o)
@@ -299,7 +303,7 @@ module _ (links ks : List (ℕ × Link)) (n : ℕ) where
             ∙ not-at y q (with_before before) _ (differ y q ys apart.0 e) ∙ other q (with_after (Some y)) _ (behind y q ys e)) linked.1,
       )
 
-module _ (links ks : List (ℕ × Link)) (n : ℕ) (ys : List ℕ) where
+module _ (links ks : List (ℕ × Place)) (n : ℕ) (ys : List ℕ) where
   linked-less : (before : Option ℕ) (ps : List ℕ) → AreLinked links before (ps ++ n ∷ ys) → AreApart (ps ++ n ∷ ys)
       → ((q : ℕ) (f : Link → Link) (o : Option Link) → is_in q (ps ++ ys) ≡ true → link_if before f q o ≡ o)
       → ((q : ℕ) → is_in q (ps ++ ys) ≡ true
@@ -342,7 +346,7 @@ less-last o n [] = refl
 less-last o n (y ∷ ys) = refl
 
 -- a number leaves a line
-pub line-less : (links ks : List (ℕ × Link)) (first last : Option ℕ) (ns : List ℕ) (n : ℕ) (link : Link) → IsLine links first last ns
+pub line-less : (links ks : List (ℕ × Place)) (first last : Option ℕ) (ns : List ℕ) (n : ℕ) (link : Link) → IsLine links first last ns
     → is_in n ns ≡ true → link_of n links ≡ Some link
     → ((q : ℕ) → link_of q ks ≡ link_if link.after (with_before link.before) q
     (link_if link.before (with_after link.after) q (link_of q links)))
@@ -393,10 +397,3 @@ last-again-after m (k ∷ ks) n apart e =
 pub last-again : (ns : List ℕ) (n : ℕ) → AreApart ns → last_in ns ≡ Some n → without n ns ++ n ∷ [] ≡ ns
 last-again [] n apart e = cc
 last-again (m ∷ ns) n apart e = last-again-after m ns n apart e
-
--- ---- the line that is seen
-
--- a line is its walk
-pub seen : (links : List (ℕ × Link)) (first last : Option ℕ) (ns : List ℕ) → IsLine links first last ns
-    → IsLine links first last (walk links (length links) first)
-seen links first last ns line = subst (λ (ms : List ℕ). IsLine links first last ms) (sym (row-walk links first last ns line)) line

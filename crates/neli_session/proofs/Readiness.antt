@@ -1,18 +1,20 @@
 -- The line of the requests that have something to read.
-use Rattle.std.proofs.Common.{ℕ, ◌+◌, ◌<◌, ◌≡◌, Bool, true, false, List, [], ◌∷◌, ◌++◌, length, drop, Option, Some, None, refl, sym, ap, subst, ◌∙◌}
+use Rattle.std.proofs.Common.{ℕ, ◌+◌, ◌<◌, ◌≡◌, Bool, true, false, List, [], ◌∷◌, ◌++◌, length, drop, Option, Some, None, Result, Ok, Err, OnErr, refl, sym, ap, subst, ◌∙◌}
 use Rattle.std.proofs.lemmas.Bool.{eqb-true}
 use Rattle.std.proofs.lemmas.List.{drop_more}
 use Rattle.std.specs.Prelude.{is_some, slice_index, not, ◌==◌, ◌&&◌, ◌||◌, if◌then◌else◌}
 use Rattle.neli_lent.specs.Messages.{Lent}
 use Rattle.neli_session.specs.declared.entry.Entry.{Entry}
+use Rattle.neli_session.specs.declared.line.Line.{Line}
 use Rattle.neli_session.specs.declared.line.Link.{Link}
+use Rattle.neli_session.specs.declared.line.Place.{Place}
 use Rattle.neli_session.specs.declared.request.Request.{Request}
-use Rattle.neli_session.specs.declared.requests.Turn.{Turn}
-use Rattle.neli_session.specs.Lines.{has_place, is_in, without}
-use Rattle.neli_session.specs.Readiness.{AreAway, AreInLine, IsTurn, line_after, line_after_all, line_among, placed_after, read_in, ready_at, settled_in}
-use Rattle.neli_session.specs.Requests.{of_number}
-use Rattle.neli_session.specs.Sessions.{after, after_all, among, takes}
-use Rattle.neli_session.proofs.Lines.{in-both, itself, without-none}
+use Rattle.neli_session.specs.declared.turn.Turn.{Turn}
+use Rattle.neli_session.specs.Lines.{IsLine, SameLinks, SameRequests, Stand, StaysInLine, has_place, is_in, order_of, without}
+use Rattle.neli_session.specs.Readiness.{AreAway, AreInLine, IsTurn, Reads, Shifts, line_after, line_after_all, line_among, read_in, ready_at, settled_in}
+use Rattle.neli_session.specs.Requests.{is_over, next_item, of_number, place_of}
+use Rattle.neli_session.specs.Sessions.{after, after_all, among, has_ended, kept, takes}
+use Rattle.neli_session.proofs.Lines.{in-both, itself, part-there, row-walk, same-line, without-none}
 
 -- ---- who stands in a line after one has joined or left
 
@@ -84,60 +86,122 @@ pub settled-read : (b : Bool) (n : ℕ) (ns : List ℕ) → settled_in b n (with
 settled-read true n ns = settled-joins n (without n ns) (out-without n ns)
 settled-read false n ns = without-none n (without n ns) (out-without n ns)
 
+-- ---- the line where requests and links stay
+
+pub kept-there : (o : Option Request) → ready_at o ≡ true → is_some (kept o) ≡ true
+kept-there None e = cc
+kept-there (Some r) e = go r.is_open (is_over r.stage) e
+  where
+    go : (read over : Bool) → (read && (is_some (next_item r) || has_ended r)) ≡ true
+        → is_some (if over && not read then None else Some r) ≡ true
+    go true true e = refl
+    go true false e = refl
+    go false over e = cc
+
+pub kept-ready : (o : Option Request) → ready_at (kept o) ≡ ready_at o
+kept-ready None = refl
+kept-ready (Some r) = go r.is_open (is_over r.stage) refl
+  where
+    go : (read over : Bool) → r.is_open ≡ read → ready_at (if over && not read then None else Some r) ≡ ready_at (Some r)
+    go true true e = refl
+    go true false e = refl
+    go false true e = sym (ap (λ (b : Bool). b && (is_some (next_item r) || has_ended r)) e)
+    go false false e = refl
+
+-- who has a request has a link
+pub linked-there : (q : ℕ) (es : List (ℕ × Place)) → has_place q es ≡ is_some (of_number q es)
+linked-there q es =
+    part-there (λ p. p.link) (place_of q es) ∙ sym (part-there (λ p. p.request) (place_of q es))
+
+in-order : (l : Line) (ns : List ℕ) → Stand l ns → order_of l ≡ ns
+in-order l ns stand = row-walk l.places.entries l.first l.last ns stand
+
+stand-same : (l m : Line) (ns : List ℕ) → Stand l ns → SameLinks l.places.entries m.places.entries → m.first ≡ l.first
+    → m.last ≡ l.last → Stand m ns
+stand-same l m ns stand links first last =
+    subst (λ (o : Option ℕ). IsLine m.places.entries o m.last ns) (sym first)
+    (subst (λ (o : Option ℕ). IsLine m.places.entries l.first o ns) (sym last)
+    (same-line l.places.entries m.places.entries l.first l.last ns (λ q e. links q) stand))
+
+-- these numbers stand in line, so they are its order
+pub seen : (l : Line) (ns : List ℕ) → AreInLine l ns → AreInLine l (order_of l) × (order_of l ≡ ns)
+seen l ns is =
+    let order = in-order l ns is.stand in
+    (subst (λ (ms : List ℕ). AreInLine l ms) (sym order) is, order)
+
+-- nothing has changed
+pub in-line-same : (l m : Line) → AreInLine l (order_of l) → SameRequests l.places.entries m.places.entries
+    → SameLinks l.places.entries m.places.entries → m.first ≡ l.first → m.last ≡ l.last
+    → AreInLine m (order_of m) × (order_of m ≡ order_of l)
+in-line-same l m before requests links first last = seen m (order_of l) (record {
+  stand = stand-same l m (order_of l) before.stand links first last;
+  ready = λ q. before.ready q ∙ ap (λ (o : Option Request). ready_at o) (sym (requests q));
+})
+
+-- what holds in any case holds after a refusal
+pub refused : {X E P : Type 0} (r : Result X E) → P → OnErr r P
+refused (Ok x) p = tt
+refused (Err e) p = p
+
 -- ---- the requests and the line after one of them has changed
 
-module _ (es fs : List (ℕ × Request)) (ns ms : List ℕ) (ps qs : List (ℕ × Link)) (n : ℕ) (stays : Bool) where
-  pub in-line-after : AreInLine es ns ps → is_some (of_number n es) ≡ true
-      → ((q : ℕ) → (n == q) ≡ false → of_number q fs ≡ of_number q es)
-      → stays ≡ is_some (of_number n fs)
-      → is_in n ms ≡ ready_at (of_number n fs)
-      → ((q : ℕ) → (n == q) ≡ false → is_in q ms ≡ is_in q ns)
-      → ((q : ℕ) → has_place q qs ≡ placed_after n stays q (has_place q ps))
-      → AreInLine fs ms qs
-  in-line-after before there others is-there own rest places = record {
+module _ (l new : Line) (ms : List ℕ) (n : ℕ) where
+  in-line-after : AreInLine l (order_of l) → Stand new ms
+      → is_in n ms ≡ ready_at (of_number n new.places.entries)
+      → ((q : ℕ) → (n == q) ≡ false → is_in q ms ≡ is_in q (order_of l))
+      → ((q : ℕ) → (n == q) ≡ false → of_number q new.places.entries ≡ of_number q l.places.entries)
+      → AreInLine new (order_of new) × (order_of new ≡ ms)
+  in-line-after before stand own rest others = seen new ms (record {
+    stand = stand;
     ready = λ q. go (n == q) q refl;
-    placed = λ q e. at (n == q) q refl e;
-  }
+  })
     where
-      go : (b : Bool) (q : ℕ) → (n == q) ≡ b → is_in q ms ≡ ready_at (of_number q fs)
-      go true q e = subst (λ (k : ℕ). is_in k ms ≡ ready_at (of_number k fs)) (eqb-true n q e) own
+      go : (b : Bool) (q : ℕ) → (n == q) ≡ b → is_in q ms ≡ ready_at (of_number q new.places.entries)
+      go true q e = subst (λ (k : ℕ). is_in k ms ≡ ready_at (of_number k new.places.entries)) (eqb-true n q e) own
       go false q e = rest q e ∙ before.ready q ∙ ap (λ (o : Option Request). ready_at o) (sym (others q e))
 
-      at : (b : Bool) (q : ℕ) → (n == q) ≡ b → is_some (of_number q fs) ≡ true → has_place q qs ≡ true
-      at true q e there-now =
-          let same = eqb-true n q e in
-          let kept : stays ≡ true = is-there ∙ subst (λ (k : ℕ). is_some (of_number k fs) ≡ true) (sym same) there-now in
-          places q ∙ ap (λ (b : Bool). if not b && (n == q) then false else has_place q ps) kept
-          ∙ before.placed q (subst (λ (k : ℕ). is_some (of_number k es) ≡ true) same there)
-      at false q e there-now =
-          places q ∙ ap (λ (b : Bool). if not stays && b then false else has_place q ps) e ∙ both stays
-          ∙ before.placed q (ap (λ (o : Option Request). is_some o) (sym (others q e)) ∙ there-now)
-        where
-          both : (b : Bool) → (if not b && false then false else has_place q ps) ≡ has_place q ps
-          both true = refl
-          both false = refl
+-- after a request that has nothing to read has come, or has gone
+pub after-place : (l new : Line) (n : ℕ) → AreInLine l (order_of l) → StaysInLine n l new → is_in n (order_of l) ≡ false
+    → ready_at (of_number n new.places.entries) ≡ false
+    → ((q : ℕ) → (n == q) ≡ false → of_number q new.places.entries ≡ of_number q l.places.entries)
+    → AreInLine new (order_of new) × (order_of new ≡ order_of l)
+after-place l new n before stays out none others =
+    in-line-after l new (order_of l) n before (stays (order_of l) before.stand out) (out ∙ sym none) (λ q e. refl) others
 
-module _ (es fs : List (ℕ × Request)) (ns ms : List ℕ) (ps qs : List (ℕ × Link)) (n : ℕ) (t : Turn) where
-  -- after a change
-  pub after-turn : AreInLine es ns ps → is_some (of_number n es) ≡ true → IsTurn (of_number n es) (of_number n fs) t
-      → ((q : ℕ) → (n == q) ≡ false → of_number q fs ≡ of_number q es) → ms ≡ settled_in t.is_ready n ns
-      → ((q : ℕ) → has_place q qs ≡ placed_after n t.stays q (has_place q ps))
-      → AreInLine fs ms qs
-  after-turn before there turn others line places =
-      in-line-after es fs ns ms ps qs n t.stays before there others turn.stays
-      (ap (λ (ks : List ℕ). is_in n ks) line ∙ own-settled t.is_ready n ns ∙ turn.is)
-      (λ q e. ap (λ (ks : List ℕ). is_in q ks) line ∙ other-settled t.is_ready q n ns e) places
+module _ (l m new : Line) (n : ℕ) (t : Turn) where
+  -- after a change of a request, and of its place in line
+  pub after-turn : AreInLine l (order_of l) → is_some (of_number n l.places.entries) ≡ true
+      → IsTurn (of_number n l.places.entries) (of_number n m.places.entries) t
+      → ((q : ℕ) → (n == q) ≡ false → of_number q m.places.entries ≡ of_number q l.places.entries)
+      → SameLinks l.places.entries m.places.entries → m.first ≡ l.first → m.last ≡ l.last
+      → Shifts n t.was_ready t.is_ready m new
+      → of_number n new.places.entries ≡ kept (of_number n m.places.entries)
+      → ((q : ℕ) → (n == q) ≡ false → of_number q new.places.entries ≡ of_number q m.places.entries)
+      → AreInLine new (order_of new) × (order_of new ≡ settled_in t.is_ready n (order_of l))
+  after-turn before there turn others links first last shifts own rest =
+      in-line-after l new (settled_in t.is_ready n (order_of l)) n before
+      (shifts (order_of l) (stand-same l m (order_of l) before.stand links first last) (before.ready n ∙ sym turn.was)
+      (ap (λ (o : Option Link). is_some o) (links n) ∙ linked-there n l.places.entries ∙ there))
+      (own-settled t.is_ready n (order_of l) ∙ turn.turned.is ∙ sym (kept-ready (of_number n m.places.entries))
+      ∙ ap (λ (o : Option Request). ready_at o) (sym own))
+      (λ q e. other-settled t.is_ready q n (order_of l) e)
+      (λ q e. rest q e ∙ others q e)
 
   -- after a read
-  pub after-read : AreInLine es ns ps → is_some (of_number n es) ≡ true → is_some (of_number n fs) ≡ true
-      → IsTurn (of_number n es) (of_number n fs) t
-      → ((q : ℕ) → (n == q) ≡ false → of_number q fs ≡ of_number q es) → ms ≡ read_in t.is_ready n ns
-      → ((q : ℕ) → has_place q qs ≡ has_place q ps)
-      → AreInLine fs ms qs
-  after-read before there stays turn others line places =
-      in-line-after es fs ns ms ps qs n true before there others (sym stays)
-      (ap (λ (ks : List ℕ). is_in n ks) line ∙ own-read t.is_ready n ns ∙ turn.is)
-      (λ q e. ap (λ (ks : List ℕ). is_in q ks) line ∙ other-read t.is_ready q n ns e) places
+  pub after-read : AreInLine l (order_of l) → is_some (of_number n l.places.entries) ≡ true
+      → IsTurn (of_number n l.places.entries) (of_number n m.places.entries) t
+      → ((q : ℕ) → (n == q) ≡ false → of_number q m.places.entries ≡ of_number q l.places.entries)
+      → SameLinks l.places.entries m.places.entries → m.first ≡ l.first → m.last ≡ l.last
+      → Reads n t.was_ready t.is_ready m new
+      → SameRequests m.places.entries new.places.entries
+      → AreInLine new (order_of new) × (order_of new ≡ read_in t.is_ready n (order_of l))
+  after-read before there turn others links first last reads same =
+      in-line-after l new (read_in t.is_ready n (order_of l)) n before
+      (reads (order_of l) (stand-same l m (order_of l) before.stand links first last) (before.ready n ∙ sym turn.was)
+      (ap (λ (o : Option Link). is_some o) (links n) ∙ linked-there n l.places.entries ∙ there))
+      (own-read t.is_ready n (order_of l) ∙ turn.turned.is ∙ ap (λ (o : Option Request). ready_at o) (sym (same n)))
+      (λ q e. other-read t.is_ready q n (order_of l) e)
+      (λ q e. same q ∙ others q e)
 
 -- ---- the line where there is no such request
 
@@ -145,9 +209,10 @@ pub gone : (o : Option Request) → false ≡ is_some o → o ≡ None
 gone None e = refl
 gone (Some r) e = cc
 
-pub none-in-line : (es : List (ℕ × Request)) (ns : List ℕ) (ps : List (ℕ × Link)) (n : ℕ) → AreInLine es ns ps
-    → of_number n es ≡ None → without n ns ≡ ns
-none-in-line es ns ps n before none = without-none n ns (before.ready n ∙ ap (λ (o : Option Request). ready_at o) none)
+pub none-in-line : (l : Line) (n : ℕ) → AreInLine l (order_of l) → of_number n l.places.entries ≡ None
+    → without n (order_of l) ≡ order_of l
+none-in-line l n before none =
+    without-none n (order_of l) (before.ready n ∙ ap (λ (o : Option Request). ready_at o) none)
 
 -- who takes a message is there
 pub taken-there : (group : ℕ) (o : Option Request) → takes group o ≡ true → is_some o ≡ true

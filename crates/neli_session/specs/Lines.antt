@@ -1,9 +1,11 @@
 -- A line of numbers, and the links by which it is kept.
-use Rattle.std.specs.Prelude.{◌≡◌, ⊤, ℕ, Bool, false, ◌||◌, ◌==◌, nat_eq, if◌then◌else◌, List, [], ◌∷◌}
+use Rattle.std.specs.Prelude.{◌≡◌, ⊤, ℕ, Bool, false, ◌||◌, ◌==◌, if◌then◌else◌, List, [], ◌∷◌, ◌++◌, length, true}
 use Rattle.std.specs.Prelude.{Option, Some, None, is_some, zero, suc}
-use Rattle.std.specs.Map.{lookup}
 use Rattle.std.specs.Option.{option_map}
+use Rattle.neli_session.specs.declared.line.Line.{Line}
 use Rattle.neli_session.specs.declared.line.Link.{Link}
+use Rattle.neli_session.specs.declared.line.Place.{Place}
+use Rattle.neli_session.specs.Requests.{of_number, place_of}
 
 -- the number is one of these
 abbrev pub is_in : ℕ → List ℕ → Bool
@@ -35,21 +37,21 @@ AreApart (n ∷ ns) = (is_in n ns ≡ false) × AreApart ns
 -- ---- how it is kept
 
 -- the link of a number
-abbrev pub link_of : ℕ → List (ℕ × Link) → Option Link
-link_of q links = lookup (nat_eq q) links
+abbrev pub link_of : ℕ → List (ℕ × Place) → Option Link
+link_of q links = option_map (λ p. p.link) (place_of q links)
 
--- a number has a place in which its link is written
-abbrev pub has_place : ℕ → List (ℕ × Link) → Bool
+-- a number has a place, in which its link is written
+abbrev pub has_place : ℕ → List (ℕ × Place) → Bool
 has_place q links = is_some (link_of q links)
 
 -- the links say that these numbers follow one another, after this one if there is one
-abbrev pub AreLinked : List (ℕ × Link) → Option ℕ → List ℕ → Type 0
+abbrev pub AreLinked : List (ℕ × Place) → Option ℕ → List ℕ → Type 0
 AreLinked links before [] = ⊤
 AreLinked links before (n ∷ ns) =
     (link_of n links ≡ Some (record { before = before; after = first_in ns })) × AreLinked links (Some n) ns
 
 -- links, the first and the last number of a line
-pub record IsLine (links : List (ℕ × Link)) (first last : Option ℕ) (ns : List ℕ) : Type 0 where
+pub record IsLine (links : List (ℕ × Place)) (first last : Option ℕ) (ns : List ℕ) : Type 0 where
   pub linked : AreLinked links None ns
   pub first_is : first ≡ first_in ns
   pub last_is : last ≡ last_in ns
@@ -61,17 +63,41 @@ next_by None = None
 next_by (Some l) = l.after
 
 -- the line that begins with this number, of so many numbers at most
-abbrev pub walk : List (ℕ × Link) → ℕ → Option ℕ → List ℕ
+abbrev pub walk : List (ℕ × Place) → ℕ → Option ℕ → List ℕ
 walk links zero o = []
 walk links (suc k) None = []
 walk links (suc k) (Some n) = n ∷ walk links k (next_by (link_of n links))
 
--- what a line is: its numbers in order, and the places
-pub record Standing : Type 0 where
-  pub order : List ℕ
-  pub places : List (ℕ × Link)
+-- these numbers stand in line, in order
+abbrev pub Stand : Line → List ℕ → Type 0
+Stand l ns = IsLine l.places.entries l.first l.last ns
 
--- ---- what its calls do to the links
+-- those that do
+abbrev pub order_of : Line → List ℕ
+order_of l = walk l.places.entries (length l.places.entries) l.first
+
+-- ---- what its calls do
+
+-- each number has the request that it had
+abbrev pub SameRequests : List (ℕ × Place) → List (ℕ × Place) → Type 0
+SameRequests old new = (q : ℕ) → of_number q new ≡ of_number q old
+
+-- each number has the link that it had
+abbrev pub SameLinks : List (ℕ × Place) → List (ℕ × Place) → Type 0
+SameLinks old new = (q : ℕ) → link_of q new ≡ link_of q old
+
+-- a number that did not stand in line is the last
+abbrev pub Joins : ℕ → Line → Line → Type 0
+Joins n old new =
+    (ns : List ℕ) → Stand old ns → is_in n ns ≡ false → has_place n old.places.entries ≡ true → Stand new (ns ++ n ∷ [])
+
+-- a number that stood in line does not
+abbrev pub Leaves : ℕ → Line → Line → Type 0
+Leaves n old new = (ns : List ℕ) → Stand old ns → is_in n ns ≡ true → Stand new (without n ns)
+
+-- the line stays, if this number does not stand in it
+abbrev pub StaysInLine : ℕ → Line → Line → Type 0
+StaysInLine n old new = (ns : List ℕ) → Stand old ns → is_in n ns ≡ false → Stand new ns
 
 -- another number follows it, or it follows another
 abbrev pub with_after : Option ℕ → Link → Link

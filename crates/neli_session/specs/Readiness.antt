@@ -1,19 +1,21 @@
 -- Which requests have something to read, and in which order they stand.
-use Rattle.std.specs.Prelude.{◌≡◌, ⊤, ℕ, Bool, true, false, ◌&&◌, ◌||◌, ◌==◌, not, if◌then◌else◌, List, [], ◌∷◌, ◌++◌, Option, Some, None, is_some}
+use Rattle.std.specs.Prelude.{◌≡◌, ⊤, ℕ, Bool, true, false, ◌&&◌, ◌||◌, ◌==◌, if◌then◌else◌, List, [], ◌∷◌, ◌++◌, Option, Some, None, IfSome, IsNone, is_some}
+use Rattle.std.specs.Option.{option_map}
 use Rattle.neli_wire.specs.declared.errors.DeError.{DeError}
 use Rattle.neli_lent.specs.Messages.{Lent, messages_in}
 use Rattle.neli_session.specs.declared.change.Change.TheVariants as change
 use Rattle.neli_session.specs.declared.entry.Entry.{Entry}
-use Rattle.neli_session.specs.declared.line.Link.{Link}
+use Rattle.neli_session.specs.declared.line.Line.{Line}
+use Rattle.neli_session.specs.declared.line.Place.{Place}
 use Rattle.neli_session.specs.declared.loss.Loss.TheVariants as loss
 use Rattle.neli_session.specs.declared.reading.Reader.{Reader}
 use Rattle.neli_session.specs.declared.reading.Reader.TheVariants as reader
 use Rattle.neli_session.specs.declared.request.Request.{Request}
-use Rattle.neli_session.specs.declared.requests.Turn.{Turn}
-use Rattle.neli_session.specs.Lines.{has_place, is_in, without}
+use Rattle.neli_session.specs.declared.turn.Turn.{Turn}
+use Rattle.neli_session.specs.Lines.{SameLinks, SameRequests, Stand, has_place, is_in, without}
 use Rattle.neli_session.specs.Messages.{messages_of}
 use Rattle.neli_session.specs.Requests.{next_item, of_number}
-use Rattle.neli_session.specs.Sessions.{after, after_all, after_own, has_ended, is_own, takes, when}
+use Rattle.neli_session.specs.Sessions.{after, after_all, after_own, has_ended, is_own, kept, takes, when}
 use Rattle.neli_session.specs.Waiting.{Item}
 
 -- somebody reads it, and a read returns an item, a loss or the end
@@ -90,20 +92,40 @@ line_received port group datagram awaited requests ns =
 
 -- ---- how it is kept
 
--- the line has exactly the numbers of the requests that have something to read, and each request has a place in it
-pub record AreInLine (entries : List (ℕ × Request)) (line : List ℕ) (places : List (ℕ × Link)) : Type 0 where
-  pub ready : (q : ℕ) → is_in q line ≡ ready_at (of_number q entries)
-  pub placed : (q : ℕ) → is_some (of_number q entries) ≡ true → has_place q places ≡ true
+-- these numbers stand in line, and they are those of the requests that have something to read
+pub record AreInLine (l : Line) (ns : List ℕ) : Type 0 where
+  pub stand : Stand l ns
+  pub ready : (q : ℕ) → is_in q ns ≡ ready_at (of_number q l.places.entries)
 
--- what a change made of a request: whether it had something to read, whether it has, and whether its number is in use
+-- what became of a request: whether it has something to read, and whether its number is in use
+pub record IsTurned (new : Option Request) (t : Turn) : Type 0 where
+  pub is : t.is_ready ≡ ready_at new
+  pub stays : t.stays ≡ is_some (kept new)
+
+-- what a change made of a request: whether it had something to read, and what became of it
 pub record IsTurn (old new : Option Request) (t : Turn) : Type 0 where
   pub was : t.was_ready ≡ ready_at old
-  pub is : t.is_ready ≡ ready_at new
-  pub stays : t.stays ≡ is_some new
+  pub turned : IsTurned new t
 
--- whether the number q has a place, once the number n keeps its own or not
-abbrev pub placed_after : ℕ → Bool → ℕ → Bool → Bool
-placed_after n stays q has = if not stays && (n == q) then false else has
+-- the request with a number, if there is one, was changed so
+pub record Turns (n : ℕ) (f : Request → Request) (t : Option Turn) (old new : List (ℕ × Place)) : Type 0 where
+  pub there : is_some t ≡ is_some (of_number n old)
+  pub none : IsNone t → SameRequests old new
+  pub turn : IfSome t (IsTurn (of_number n old) (of_number n new))
+  pub own : of_number n new ≡ option_map f (of_number n old)
+  pub others : (q : ℕ) → (n == q) ≡ false → of_number q new ≡ of_number q old
+  pub links : SameLinks old new
+
+-- a number was put into line, or taken out, by whether it stood there and is to
+abbrev pub Shifts : ℕ → Bool → Bool → Line → Line → Type 0
+Shifts n was is old new =
+    (ns : List ℕ) → Stand old ns → is_in n ns ≡ was → has_place n old.places.entries ≡ true
+    → Stand new (settled_in is n ns)
+
+-- the same after a read
+abbrev pub Reads : ℕ → Bool → Bool → Line → Line → Type 0
+Reads n was is old new =
+    (ns : List ℕ) → Stand old ns → is_in n ns ≡ was → has_place n old.places.entries ≡ true → Stand new (read_in is n ns)
 
 -- none of these requests stands in line
 abbrev pub AreAway : List Entry → List ℕ → Type 0

@@ -2,6 +2,7 @@
 use Rattle.std.specs.Prelude.{ℕ, ℤ, pos, Bool, true, false, not, ◌&&◌, ◌||◌, ◌==◌, nat_eq, if◌then◌else◌}
 use Rattle.std.specs.Prelude.{List, [], ◌∷◌, ◌++◌, Option, Some, None, Ok, Err, is_some}
 use Rattle.std.specs.Map.{lookup}
+use Rattle.std.specs.Option.{option_map}
 use Rattle.std.specs.Ordering.{int_eq}
 use Rattle.neli_answers.specs.Answers.{ends_answer, has_all}
 use Rattle.neli_answers.specs.declared.answering.Answering.{Answering}
@@ -9,6 +10,7 @@ use Rattle.neli_answers.specs.declared.answering.Answering.TheVariants as answer
 use Rattle.neli_lent.specs.Messages.{Lent, code_of}
 use Rattle.neli_session.specs.declared.change.Change.{Change}
 use Rattle.neli_session.specs.declared.change.Change.TheVariants as change
+use Rattle.neli_session.specs.declared.line.Place.{Place}
 use Rattle.neli_session.specs.declared.loss.Loss.{Loss}
 use Rattle.neli_session.specs.declared.loss.Loss.TheVariants as loss
 use Rattle.neli_session.specs.declared.request.Request.{Request}
@@ -168,11 +170,19 @@ passed r = passed_by r.waiting (untold r) r
 
 -- ---- the requests whose numbers are in use
 
--- the requests by their numbers, and the numbers of those that have something to read, in order
+-- the requests by their numbers, each with its place in line, and the numbers of those that have something to read, in
+-- order
 pub record Held : Type 0 where
-  pub entries : List (ℕ × Request)
+  pub entries : List (ℕ × Place)
   pub line : List ℕ
 
--- the request with a number, if it is in use
-abbrev pub of_number : ℕ → List (ℕ × Request) → Option Request
-of_number q entries = lookup (nat_eq q) entries
+-- the place of a number, if it is in use, and the request
+abbrev pub place_of : ℕ → List (ℕ × Place) → Option Place
+place_of q entries = lookup (nat_eq q) entries
+
+abbrev pub of_number : ℕ → List (ℕ × Place) → Option Request
+of_number q entries = option_map (λ p. p.request) (place_of q entries)
+
+-- the request that a message answers, by its number
+abbrev pub own_of : Lent ℕ → List (ℕ × Place) → Option Request
+own_of m entries = of_number m.0.sequence_number entries

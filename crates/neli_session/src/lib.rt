@@ -40,6 +40,7 @@ mod sending;
 mod session;
 mod spans;
 pub mod steps;
+mod turn;
 
 pub use change::Change;
 pub use entry::Entry;

@@ -1,12 +1,16 @@
-//! The line of the readers that have something to read.
+//! The requests by their numbers, and the line of those that have something to read.
 
-ghost use Rattle.std.specs.Prelude.{◌≡◌, ◌++◌, ◌∷◌, ◌||◌, ◌==◌, ℕ, List, [], false, true, Some, None, if◌then◌else◌, IsTrue, OnErr, OnOk, length};
-ghost use Rattle.neli_session.specs.Lines.{end_with, first_in, has_place, is_in, link_at, link_if, link_of, with_after, with_before, without};
+ghost use Rattle.std.specs.Prelude.{◌≡◌, ◌==◌, ℕ, [], Some, None, OnErr, OnOk, false, true, if◌then◌else◌, nat_eq, option_copied};
+ghost use Rattle.neli_session.specs.Lines.{Joins, Leaves, SameLinks, SameRequests, StaysInLine, end_with, link_at, link_if, link_of, with_after, with_before};
+ghost use Rattle.neli_session.specs.Readiness.{IsTurned, Reads, Shifts};
+ghost use Rattle.neli_session.specs.Requests.{of_number};
+ghost use Rattle.neli_session.specs.Sessions.{kept};
 
+use crate::request::Request;
+use crate::turn::Turn;
 use indexmap::IndexMap;
 use neli_wire::NoMemory;
 use std::alloc::Global;
-use std::marker::Model;
 
 /// The neighbours of a number that stands in the line.
 #[derive(Clone, Copy, Debug)]
@@ -15,55 +19,56 @@ pub(crate) struct Link {
     after: Option<u32>,
 }
 
-/// Gives a number a place, if it has none. Refused only if memory runs out; then nothing changes.
-fn add_link(links: &mut IndexMap<u32, Link>, number: u32) -> Result<(), NoMemory>
-    ensures kept { (q : ℕ) → has_place q links.old.entries ≡ true
-        → link_of q links.new.entries ≡ link_of q links.old.entries }
-    ensures added { OnOk result ((q : ℕ) → has_place q links.new.entries
-        ≡ ((number == q) || has_place q links.old.entries)) }
-    ensures unchanged { OnErr result ((q : ℕ) → has_place q links.new.entries
-        ≡ has_place q links.old.entries) }
-{
-    if links.contains_key(&number) {
-        return Ok(());
-    }
-    let link = Link {
-        before: None,
-        after: None,
-    };
-    match links.insert(number, link) {
-        Ok(_) => Ok(()),
-        Err(_) => Err(NoMemory),
+/// A request, and its neighbours while its number stands in the line.
+#[derive(Drop)]
+pub(crate) struct Place {
+    pub(crate) request: Request,
+    link: Link,
+}
+
+impl Place {
+    /// The place of a request whose number does not stand in the line.
+    pub(crate) fn new(request: Request) -> Place
+        ensures { result.request ≡ request }
+    {
+        Place {
+            request,
+            link: Link {
+                before: None,
+                after: None,
+            },
+        }
     }
 }
 
 /// Writes the link of a number, if it has a place.
-fn set_link(links: &mut IndexMap<u32, Link>, number: u32, link: Link)
-    ensures links { (q : ℕ) → link_of q links.new.entries ≡ link_at number (λ _. link) q (link_of q links.old.entries) }
-    ensures count { length links.new.entries ≡ length links.old.entries }
+fn set_link(places: &mut IndexMap<u32, Place>, number: u32, link: Link)
+    ensures links { (q : ℕ) → link_of q places.new.entries
+        ≡ link_at number (λ _. link) q (link_of q places.old.entries) }
+    ensures requests { SameRequests places.old.entries places.new.entries }
 {
-    if let Some(place) = links.get_mut(&number) {
-        *place = link;
+    if let Some(place) = places.get_mut(&number) {
+        place.link = link;
     }
 }
 
 /// Writes which number follows one: which is the first in line, if it follows none.
 fn set_after(
-    links: &mut IndexMap<u32, Link>,
+    places: &mut IndexMap<u32, Place>,
     first: &mut Option<u32>,
     before: Option<u32>,
     after: Option<u32>,
 )
-    ensures links { (q : ℕ) → link_of q links.new.entries
-        ≡ link_if before (with_after after) q (link_of q links.old.entries) }
-    ensures count { length links.new.entries ≡ length links.old.entries }
+    ensures links { (q : ℕ) → link_of q places.new.entries
+        ≡ link_if before (with_after after) q (link_of q places.old.entries) }
+    ensures requests { SameRequests places.old.entries places.new.entries }
     ensures first { first.new ≡ end_with before after first.old }
 {
     match before {
         None => *first = after,
         Some(number) => {
-            if let Some(link) = links.get_mut(&number) {
-                link.after = after;
+            if let Some(place) = places.get_mut(&number) {
+                place.link.after = after;
             }
         }
     }
@@ -71,115 +76,95 @@ fn set_after(
 
 /// Writes which number one follows: which is the last in line, if none follows it.
 fn set_before(
-    links: &mut IndexMap<u32, Link>,
+    places: &mut IndexMap<u32, Place>,
     last: &mut Option<u32>,
     after: Option<u32>,
     before: Option<u32>,
 )
-    ensures links { (q : ℕ) → link_of q links.new.entries
-        ≡ link_if after (with_before before) q (link_of q links.old.entries) }
-    ensures count { length links.new.entries ≡ length links.old.entries }
+    ensures links { (q : ℕ) → link_of q places.new.entries
+        ≡ link_if after (with_before before) q (link_of q places.old.entries) }
+    ensures requests { SameRequests places.old.entries places.new.entries }
     ensures last { last.new ≡ end_with after before last.old }
 {
     match after {
         None => *last = before,
         Some(number) => {
-            if let Some(link) = links.get_mut(&number) {
-                link.before = before;
+            if let Some(place) = places.get_mut(&number) {
+                place.link.before = before;
             }
         }
     }
 }
 
-/// Numbers in line, of those that have a place.
+/// The requests by their numbers, and the ends of the line.
 #[derive(Drop)]
 pub(crate) struct Line {
-    links: IndexMap<u32, Link>,
+    pub(crate) places: IndexMap<u32, Place>,
     first: Option<u32>,
     last: Option<u32>,
 }
 
-impl Model for Line {
-    ghost use Rattle.std.specs.Prelude.{length};
-    ghost use Rattle.neli_session.specs.Lines.{IsLine, Standing, walk};
-
-    ghost Value = { Standing };
-
-    ghost view = { λ l. record {
-      order = walk l.links.entries (length l.links.entries) l.first;
-      places = l.links.entries;
-    } };
-
-    ghost invariant = { λ l. IsLine l.links.entries l.first l.last
-        (walk l.links.entries (length l.links.entries) l.first) };
-}
-
 impl Line {
-    /// An empty line without places. It takes no memory.
+    /// No requests, and an empty line. It takes no memory.
     pub(crate) fn new(alloc: Global) -> Line
-        ensures order { result.order ≡ [] }
-        ensures places { result.places ≡ [] }
+        ensures places { result.places.entries ≡ [] }
+        ensures first { result.first ≡ None }
+        ensures last { result.last ≡ None }
     {
         Line {
-            links: IndexMap::new(alloc),
+            places: IndexMap::new(alloc),
             first: None,
             last: None,
         }
     }
 
-    /// Gives a number a place. Refused only if memory runs out; then nothing changes.
-    pub(crate) fn add_place(&mut self, number: u32) -> Result<(), NoMemory>
-        ensures order { self.new.order ≡ self.old.order }
-        ensures places { OnOk result ((q : ℕ) → has_place q self.new.places
-            ≡ ((number == q) || has_place q self.old.places)) }
-        ensures unchanged { OnErr result ((q : ℕ) → has_place q self.new.places ≡ has_place q self.old.places) }
+    /// The first number in line.
+    pub(crate) fn first(&self) -> Option<u32>
+        ensures { result ≡ self.now.first }
     {
-        add_link(&mut self.links, number)
+        self.first
     }
 
-    /// Takes the place of a number that does not stand in the line.
-    pub(crate) fn remove_place(&mut self, number: u32)
-        requires { is_in number self.old.order ≡ false }
-        ensures order { self.new.order ≡ self.old.order }
-        ensures places { (q : ℕ) → has_place q self.new.places
-            ≡ (if number == q then false else has_place q self.old.places) }
+    /// The request with a number.
+    pub(crate) fn get(&self, number: u32) -> Option<&Request>
+        ensures { option_copied result ≡ of_number number self.now.places.entries }
     {
-        let _ = self.links.swap_remove(&number);
+        match self.places.get(&number) {
+            None => None,
+            Some(place) => Some(&place.request),
+        }
     }
 
     /// Appends a number to the line.
-    pub(crate) fn join(&mut self, number: u32)
-        requires place { has_place number self.old.places ≡ true }
-        requires new { is_in number self.old.order ≡ false }
-        ensures order { self.new.order ≡ self.old.order ++ number ∷ [] }
-        ensures places { (q : ℕ) → has_place q self.new.places ≡ has_place q self.old.places }
+    fn join(&mut self, number: u32)
+        ensures line { Joins number self.old self.new }
+        ensures requests { SameRequests self.old.places.entries self.new.places.entries }
     {
         let link = Link {
             before: self.last,
             after: None,
         };
-        set_link(&mut self.links, number, link);
-        set_after(&mut self.links, &mut self.first, self.last, Some(number));
+        set_link(&mut self.places, number, link);
+        set_after(&mut self.places, &mut self.first, self.last, Some(number));
         self.last = Some(number);
     }
 
-    /// Takes a number out of the line, which keeps its place.
-    pub(crate) fn leave(&mut self, number: u32)
-        requires { is_in number self.old.order ≡ true }
-        ensures order { self.new.order ≡ without number self.old.order }
-        ensures places { (q : ℕ) → has_place q self.new.places ≡ has_place q self.old.places }
+    /// Takes a number out of the line.
+    fn leave(&mut self, number: u32)
+        ensures line { Leaves number self.old self.new }
+        ensures requests { SameRequests self.old.places.entries self.new.places.entries }
     {
-        let link = match self.links.get(&number) {
+        let link = match self.places.get(&number) {
             None => return,
-            Some(link) => *link,
+            Some(place) => place.link,
         };
-        set_after(&mut self.links, &mut self.first, link.before, link.after);
-        set_before(&mut self.links, &mut self.last, link.after, link.before);
+        set_after(&mut self.places, &mut self.first, link.before, link.after);
+        set_before(&mut self.places, &mut self.last, link.after, link.before);
     }
 
     /// Whether a number is the last in line.
-    pub(crate) fn is_last(&self, number: u32) -> bool
-        ensures last { IsTrue result → without number self.now.order ++ number ∷ [] ≡ self.now.order }
+    fn is_last(&self, number: u32) -> bool
+        ensures { result ≡ true → self.now.last ≡ Some number }
     {
         match self.last {
             None => false,
@@ -187,10 +172,68 @@ impl Line {
         }
     }
 
-    /// The first number in line.
-    pub(crate) fn first(&self) -> Option<u32>
-        ensures { result ≡ first_in self.now.order }
+    /// Adds a request with a number that is not in use. Refused only if memory runs out; then nothing changes.
+    pub(crate) fn add(&mut self, number: u32, request: Request) -> Result<(), NoMemory>
+        requires { of_number number self.old.places.entries ≡ None }
+        ensures line { StaysInLine number self.old self.new }
+        ensures added { OnOk result ((q : ℕ) → of_number q self.new.places.entries
+            ≡ (if number == q then Some request else of_number q self.old.places.entries)) }
+        ensures unchanged { OnErr result
+            (SameRequests self.old.places.entries self.new.places.entries) }
     {
-        self.first
+        match self.places.insert(number, Place::new(request)) {
+            Ok(_) => Ok(()),
+            Err(_) => Err(NoMemory),
+        }
+    }
+
+    /// Removes the request with a number, which does not stand in line.
+    pub(crate) fn remove(&mut self, number: u32)
+        ensures line { StaysInLine number self.old self.new }
+        ensures removed { (q : ℕ) → of_number q self.new.places.entries
+            ≡ (if number == q then None else of_number q self.old.places.entries) }
+    {
+        let _ = self.places.swap_remove(&number);
+    }
+
+    /// Puts a number into line, or takes it out.
+    fn shift(&mut self, number: u32, was_ready: bool, is_ready: bool)
+        ensures line { Shifts number was_ready is_ready self.old self.new }
+        ensures requests { SameRequests self.old.places.entries self.new.places.entries }
+    {
+        match (was_ready, is_ready) {
+            (true, true) => {}
+            (false, false) => {}
+            (true, false) => self.leave(number),
+            (false, true) => self.join(number),
+        }
+    }
+
+    /// The same after a change of its request, which is removed if its number is not in use any more.
+    pub(crate) fn settle(&mut self, number: u32, turn: Turn)
+        requires { IsTurned (of_number number self.old.places.entries) turn }
+        ensures line { Shifts number turn.was_ready turn.is_ready self.old self.new }
+        ensures own { of_number number self.new.places.entries
+            ≡ kept (of_number number self.old.places.entries) }
+        ensures others { (q : ℕ) → nat_eq number q ≡ false
+            → of_number q self.new.places.entries ≡ of_number q self.old.places.entries }
+    {
+        self.shift(number, turn.was_ready, turn.is_ready);
+        if turn.stays {
+            return;
+        }
+        self.remove(number);
+    }
+
+    /// Puts a number that was read at the end of the line, or takes it out.
+    pub(crate) fn settle_read(&mut self, number: u32, turn: Turn)
+        ensures line { Reads number turn.was_ready turn.is_ready self.old self.new }
+        ensures requests { SameRequests self.old.places.entries self.new.places.entries }
+    {
+        if turn.is_ready && self.is_last(number) {
+            return;
+        }
+        self.shift(number, turn.was_ready, false);
+        self.shift(number, false, turn.is_ready);
     }
 }

@@ -1,6 +1,6 @@
 //! A request: what comes for it, until nothing more can come.
 
-ghost use Rattle.std.specs.Prelude.{◌≡◌, ◌≤◌, ◌<◌, ◌++◌, ◌∷◌, ◌||◌, [], None, Ok, Some, if◌then◌else◌, IfOk, OnErr, OnOk, true, false, length, option_map, take};
+ghost use Rattle.std.specs.Prelude.{◌≡◌, ◌≤◌, ◌<◌, ◌++◌, ◌∷◌, ◌||◌, [], None, Ok, Some, if◌then◌else◌, IfOk, OnErr, OnOk, true, false, is_some, length, option_map, take};
 ghost use Rattle.neli_lent.specs.Messages.{message_view};
 ghost use Rattle.neli_session.specs.Messages.{IsMessage, messages_of};
 ghost use Rattle.neli_session.specs.Readiness.{is_ready};
@@ -11,7 +11,7 @@ ghost use Rattle.neli_session.specs.Requests.{is_marked, is_over, left_at, lost,
 ghost use Rattle.neli_session.specs.Requests.{sent_at, settled, unsent, verdict_of};
 ghost use Rattle.neli_session.specs.Runs.{HasRun, heard_run};
 ghost use Rattle.neli_session.specs.Sends.{is_running};
-ghost use Rattle.neli_session.specs.Sessions.{closed, has_ended, queued};
+ghost use Rattle.neli_session.specs.Sessions.{closed, has_ended, kept, queued};
 
 use crate::Loss;
 use crate::change::Change;
@@ -189,7 +189,8 @@ impl Request {
         requires within { first ≤ length bytes.now }
         requires some { 0 < first }
         requires first { IsMessage (take first bytes.now) (message_view message.now) }
-        ensures run { IfOk result (λ run. HasRun self.old.answering (message_view message.now) bytes.now run) }
+        ensures run { IfOk result (λ run.
+            HasRun self.old.answering (message_view message.now) bytes.now run) }
         ensures heard { IfOk result (λ run. self.new
             ≡ heard_run (messages_of (take run.length bytes.now)) run.ended self.old) }
         ensures unchanged { OnErr result (self.new ≡ self.old) }
@@ -308,6 +309,13 @@ impl Request {
         ensures { result ≡ is_ready self.now }
     {
         self.is_open && (self.has_ended() || !self.waiting.is_empty())
+    }
+
+    /// Whether its number is in use: somebody reads it, or something may come.
+    pub(crate) fn is_kept(&self) -> bool
+        ensures { result ≡ is_some (kept (Some self.now)) }
+    {
+        self.is_open || !self.stage.is_over()
     }
 
     /// Keeps nothing of its answer any more. It takes no memory.
