@@ -61,7 +61,8 @@ fn push(
 fn pop(front: &mut Option<Entry>, later: &mut VecDeque<Entry>)
     requires { IsFronted front.old later.old.items }
     ensures fronted { IsFronted front.new later.new.items }
-    ensures popped { (es : List Entry) (e : Entry) → entries_in front.old later.old.items ≡ es ++ e ∷ []
+    ensures popped { (es : List Entry) (e : Entry)
+        → entries_in front.old later.old.items ≡ es ++ e ∷ []
         → entries_in front.new later.new.items ≡ es }
 {
     if let Some(_) = later.pop_back() {

@@ -116,14 +116,16 @@ impl Session {
     /// passes its item or closes it at the end, reads all in turn. It takes constant time, and no memory.
     pub fn next_ready(&self) -> Option<u32>
         ensures first { result ≡ first_in self.now.requests.line }
-        ensures ready { (q : ℕ) → is_in q self.now.requests.line ≡ ready_at (at self.now.requests q) }
+        ensures ready { (q : ℕ) → is_in q self.now.requests.line
+            ≡ ready_at (at self.now.requests q) }
     {
         self.requests.first_ready()
     }
 
     /// Whether a read of this reader returns an item, a loss or the end. It takes constant time, and no memory.
     pub fn is_ready(&self, reader: Reader) -> bool
-        ensures { result ≡ is_reader_ready self.now.multicast self.now.unasked (at self.now.requests) reader }
+        ensures { result
+            ≡ is_reader_ready self.now.multicast self.now.unasked (at self.now.requests) reader }
     {
         match reader {
             Reader::Request(number) => match self.requests.get(number) {

@@ -43,7 +43,8 @@ fn next_like(
 ) -> Option<Run>
     requires { place < length bytes.now }
     ensures within { IfSome result (λ r. (0 < r.length) × (place + r.length ≤ length bytes.now)) }
-    ensures like { IfSome result (λ r. (k : Lent ℕ) × IsMessage (take r.length (drop place bytes.now)) k
+    ensures like { IfSome result (λ r. (k : Lent ℕ)
+        × IsMessage (take r.length (drop place bytes.now)) k
         × IsLike (message_view message.now) k × (ends answering k ≡ r.ended)) }
 {
     let Ok((next, span)) = span_at(bytes, place) else {

@@ -230,7 +230,8 @@ impl Session {
 
     /// Lends the datagram on its way; none if [`Session::next_outgoing`] chose none.
     pub fn outgoing(&self) -> Option<&[u8]>
-        ensures lent { IfSome result (λ s. option_map (λ p. p.bytes) self.now.leaving ≡ Some s.now) }
+        ensures lent { IfSome result (λ s.
+            option_map (λ p. p.bytes) self.now.leaving ≡ Some s.now) }
         ensures none { IsNone result → self.now.leaving ≡ None }
     {
         match &self.leaving {
@@ -282,10 +283,11 @@ impl Session {
     pub fn not_sent(&mut self, errno: i32)
         ensures leaving { self.new.leaving ≡ None }
         ensures requests { (q : ℕ) → at self.new.requests q
-            ≡ among (numbers_in self.old.leaving) (when (Change.Unsent errno)) q (at self.old.requests q) }
+            ≡ among (numbers_in self.old.leaving) (when (Change.Unsent errno)) q
+            (at self.old.requests q) }
         ensures line { self.new.requests.line
-            ≡ line_among (numbers_in self.old.leaving) (when (Change.Unsent errno)) (at self.old.requests)
-            self.old.requests.line }
+            ≡ line_among (numbers_in self.old.leaving) (when (Change.Unsent errno))
+            (at self.old.requests) self.old.requests.line }
         ensures outbox { self.new.outbox ≡ self.old.outbox }
         ensures running { self.new.running ≡ self.old.running }
         ensures awaited { self.new.awaited ≡ self.old.awaited }

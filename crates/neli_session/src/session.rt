@@ -50,7 +50,8 @@ fn add(
     span: &[u8],
 ) -> Result<(), NoMemory>
     requires { IsMessage span.now (message_view message.now) }
-    ensures added { OnOk result (queue.new ≡ gains (share true (message_view message.now)) queue.old) }
+    ensures added { OnOk result
+        (queue.new ≡ gains (share true (message_view message.now)) queue.old) }
     ensures unchanged { OnErr result (queue.new ≡ queue.old) }
 {
     match queue {
@@ -166,7 +167,8 @@ impl Session {
             × (self.new.requests.line ≡ line_after_all self.old.port group
             (messages_of (take taken bytes.now)) (at self.old.requests) self.old.requests.line))) }
         ensures sending { SameSending self.old self.new }
-        ensures unchanged { OnErr result (((q : ℕ) → at self.new.requests q ≡ at self.old.requests q)
+        ensures unchanged { OnErr result
+            (((q : ℕ) → at self.new.requests q ≡ at self.old.requests q)
             × (self.new.requests.line ≡ self.old.requests.line)
             × (self.new.multicast ≡ self.old.multicast) × (self.new.unasked ≡ self.old.unasked)) }
     {
@@ -218,8 +220,10 @@ impl Session {
             (messages_of (take taken bytes.now)) (at self.old.requests) self.old.requests.line))) }
         ensures multicast { self.new.multicast ≡ self.old.multicast }
         ensures sending { SameSending self.old self.new }
-        ensures unchanged { OnErr result (((q : ℕ) → at self.new.requests q ≡ at self.old.requests q)
-            × (self.new.requests.line ≡ self.old.requests.line) × (self.new.unasked ≡ self.old.unasked)) }
+        ensures unchanged { OnErr result
+            (((q : ℕ) → at self.new.requests q ≡ at self.old.requests q)
+            × (self.new.requests.line ≡ self.old.requests.line)
+            × (self.new.unasked ≡ self.old.unasked)) }
     {
         if let Some(taken) = self.requests.hear(group, message, first, bytes)? {
             return Ok(Some(taken));

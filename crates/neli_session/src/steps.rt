@@ -32,7 +32,8 @@ pub fn send_expecting(
     requests: &[u8],
     answering: Answering,
 ) -> Result<(), SendError>
-    ensures sent { OnOk result (IsStep (Send (Some answering) requests.now) session.old session.new) }
+    ensures sent { OnOk result
+        (IsStep (Send (Some answering) requests.now) session.old session.new) }
     ensures refused { OnErr result (IsStep Ask session.old session.new) }
 {
     session.send_expecting(requests, answering)
@@ -45,7 +46,8 @@ pub fn request(
     flags: NlmF,
     body: &[u8],
 ) -> Result<u32, SendError>
-    ensures sent { OnOk result ((bytes : List ℕ) × IsStep (Send None bytes) session.old session.new) }
+    ensures sent { OnOk result
+        ((bytes : List ℕ) × IsStep (Send None bytes) session.old session.new) }
     ensures refused { OnErr result (IsStep Ask session.old session.new) }
 {
     session.request(nl_type, flags, body)
@@ -93,7 +95,8 @@ pub fn receive(
     group: u32,
     is_joined: bool,
 ) -> Result<(), Untaken>
-    ensures received { OnOk result (IsStep (Receive group is_joined datagram.now) session.old session.new) }
+    ensures received { OnOk result
+        (IsStep (Receive group is_joined datagram.now) session.old session.new) }
     ensures part { IfErr result (λ u. IsStep (Receive group is_joined (take u.taken datagram.now))
         session.old session.new) }
 {
