@@ -5,16 +5,16 @@
 //!   with its path and what its payload is.
 //! - [`PayloadText`], [`PayloadJson`]: a payload, printed. [`PathText`]: a path by the names on it.
 //! - [`check`]: the first attribute of a request that the kernel's parser does not allow; [`check_as`] by the strict or
-//!   the liberal one. [`find`]: the attribute at the offset that an extended acknowledgement states. [`Refusal`]: an
-//!   error in one line.
+//!   the liberal one. [`Policies`]: what the running kernel itself allows. [`find`]: the attribute at the offset that an
+//!   extended acknowledgement states. [`Refusal`]: an error in one line.
 
 pub use neli_tables::{
     Column, Kind, Line, MessagePlace, Options, ReadError, Span, Table, Tables, Way, Why, Word,
     is_set, options_of, prefix_of, unnamed_bits,
 };
 pub use neli_tables_check::{
-    Diagnosis, PathText, Place, Refusal, Validation, Violation, Wrong, check, check_as, find,
-    validation_of,
+    Diagnosis, PathText, Place, Policies, Refusal, Unmet, Validation, Violation, Wrong, check,
+    check_as, find, validation_of,
 };
 pub use neli_tables_generic::GenericTable;
 pub use neli_tables_routing::RoutingTable;

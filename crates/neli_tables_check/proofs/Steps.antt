@@ -10,7 +10,7 @@ use Rattle.neli_tables_check.specs.Cuts.{behind, entry_size, last_among, payload
 use Rattle.neli_tables_check.specs.Violations.{Deeper, ListSeen, Where, deeper_at, entry_wrong, front_of, left_wrong}
 use Rattle.neli_tables_check.specs.Violations.{list_wrong, rest_wrong, violation_view}
 
-one_more : (n later : ℕ) → later + 1 ≡ n → n ≡ suc later
+pub one_more : (n later : ℕ) → later + 1 ≡ n → n ≡ suc later
 one_more n later e = omega arith
 
 -- ---- the last of equal attributes

@@ -93,12 +93,15 @@ abbrev pub span_by : Option ℕ → Option ℕ → Option Span
 span_by (Some first) (Some last) = Some (record { first = first; last = last })
 span_by first last = None
 
+-- the least and the largest number: NL_POLICY_TYPE_ATTR_MIN_VALUE_U (4) and MAX_VALUE_U (5)
+abbrev pub limits_in : List ℕ → Option Span
+limits_in row = span_by (limit_in (first_payload 4 row)) (limit_in (first_payload 5 row))
+
 abbrev pub allowed_in : Option (List ℕ) → Option Span
 allowed_in None = None
-allowed_in (Some policy) =
-    span_by (limit_in (first_payload 4 policy)) (limit_in (first_payload 5 policy))
+allowed_in (Some row) = limits_in row
 
--- the least and the largest number: of NLMSGERR_ATTR_POLICY (4) NL_POLICY_TYPE_ATTR_MIN_VALUE_U (4) and MAX_VALUE_U (5)
+-- the same of the row in an acknowledgement: NLMSGERR_ATTR_POLICY (4)
 abbrev pub allowed_of : List ℕ → Option Span
 allowed_of attributes = allowed_in (first_payload 4 attributes)
 

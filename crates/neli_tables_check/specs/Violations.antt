@@ -2,7 +2,7 @@
 use Rattle.std.specs.Prelude.{ℕ, zero, suc, Bool, ◌||◌, true, false, not, ◌&&◌, ◌==◌, nat_le, nat_lt}
 use Rattle.std.specs.Prelude.{if◌then◌else◌, List, [], ◌∷◌, ◌++◌, codes, length, take, drop, slice_get}
 use Rattle.std.specs.Prelude.{Option, Some, None, is_some, Result, Ok, Err}
-use Rattle.std.specs.Fmt.{decimal, digits}
+use Rattle.std.specs.Fmt.{decimal, digits, signed_decimal}
 use Rattle.std.specs.Option.{option_map, option_or}
 use Rattle.neli_wire.specs.Sizes.{align}
 use Rattle.neli_tables.specs.declared.kind.Kind.{Kind}
@@ -288,6 +288,8 @@ wrong_text (wrong.Length span) =
     ++ (decimal span.first ++ (codes " to " ++ (decimal span.last ++ codes " bytes")))
 wrong_text (wrong.Range span) =
     codes "not from " ++ (decimal span.first ++ (codes " to " ++ decimal span.last))
+wrong_text (wrong.Signed first last) =
+    codes "not from " ++ (signed_decimal first ++ (codes " to " ++ signed_decimal last))
 wrong_text (wrong.Mask mask) = codes "bits that are not in 0x" ++ digits 16 false mask
 wrong_text wrong.Unselected = codes "bits that are not selected"
 wrong_text wrong.Unknown = codes "unknown attribute"

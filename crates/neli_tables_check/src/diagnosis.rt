@@ -4,7 +4,7 @@ ghost use Rattle.std.specs.Prelude.{◌≡◌, ◌++◌, Some};
 ghost use Rattle.std.specs.Option.{option_map};
 ghost use Rattle.neli_tables_walk.specs.Bodies.{body_view};
 ghost use Rattle.neli_tables_walk.specs.Controller.{first_payload};
-ghost use Rattle.neli_tables_check.specs.Diagnoses.{about_text, allowed_of, allowed_text, is_value, lacking};
+ghost use Rattle.neli_tables_check.specs.Diagnoses.{about_text, allowed_of, allowed_text, is_value, lacking, limits_in};
 ghost use Rattle.neli_tables_check.specs.Diagnoses.{limit_in, missing_of, missing_text, offset_by, payload_view};
 ghost use Rattle.neli_tables_check.specs.Diagnoses.{row_in_path, sent_at, sent_in, set_at, value_by, value_of};
 ghost use Rattle.neli_tables_check.specs.Diagnoses.{value_row, value_text};
@@ -71,7 +71,7 @@ impl<'b, 'r, 'w, 't> Diagnosis<'b, 'r, 'w, 't> {
 }
 
 /// The number in four bytes of the attribute with this number.
-fn number_of(attributes: &[u8], number: u16) -> Option<usize>
+pub fn number_of(attributes: &[u8], number: u16) -> Option<usize>
     ensures { result ≡ offset_by (first_payload number attributes.now) }
 {
     offset_in(first_payload(attributes, number)?)
@@ -150,7 +150,7 @@ fn value_of<'r, 'w, 't>(
 }
 
 /// The number in eight bytes.
-fn limit_in(bytes: Option<&[u8]>) -> Option<u64>
+pub fn limit_in(bytes: Option<&[u8]>) -> Option<u64>
     ensures { result ≡ limit_in (option_map (λ bytes. bytes.now) bytes.entry) }
 {
     let bytes = bytes?;
@@ -165,10 +165,16 @@ fn limit_in(bytes: Option<&[u8]>) -> Option<u64>
 fn allowed_of(attributes: &[u8]) -> Option<Span>
     ensures { result ≡ allowed_of attributes.now }
 {
-    let policy = first_payload(attributes, u16::from(NlmsgerrAttr::Policy))?;
+    limits_in(first_payload(attributes, u16::from(NlmsgerrAttr::Policy))?)
+}
+
+/// The numbers that a row of a policy allows.
+pub fn limits_in(row: &[u8]) -> Option<Span>
+    ensures { result ≡ limits_in row.now }
+{
     Some(Span {
-        first: limit_in(first_payload(policy, MIN_VALUE))?,
-        last: limit_in(first_payload(policy, MAX_VALUE))?,
+        first: limit_in(first_payload(row, MIN_VALUE))?,
+        last: limit_in(first_payload(row, MAX_VALUE))?,
     })
 }
 

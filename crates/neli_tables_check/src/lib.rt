@@ -8,6 +8,7 @@
 //!   `IFLA_LINKINFO.IFLA_INFO_DATA.IFLA_VLAN_ID`.
 //! - [`Diagnosis`]: an error of the kernel by the request that it refused: also the value as it was sent, what the policy
 //!   allows, and an attribute that is missing.
+//! - [`Policies`]: what the running kernel states of its own policies, and a request against them.
 //! - [`Refusal`]: an error of the kernel in one line: its name, the kernel's text, and the
 //!   attribute of the request that it is about.
 #![tactic(auto)]
@@ -18,7 +19,9 @@ mod found;
 mod listed;
 mod offset;
 mod place;
+mod policies;
 mod refusal;
+mod row;
 mod validation;
 mod values;
 mod violation;
@@ -27,6 +30,7 @@ mod wrong;
 pub use diagnosis::Diagnosis;
 pub use offset::find;
 pub use place::{PathText, Place};
+pub use policies::{Policies, Unmet};
 pub use refusal::Refusal;
 pub use validation::Validation;
 pub use violation::{Violation, check, check_as, validation_of};

@@ -23,7 +23,7 @@ const INET: u8 = 2;
 const INET6: u8 = 10;
 
 /// The size of a `struct nla_bitfield32`.
-const BITS_SIZE: usize = 8;
+pub const BITS_SIZE: usize = 8;
 
 /// The size of a `struct sockaddr_in`, the shorter one.
 const SOCKET_SIZE: usize = 16;
@@ -46,7 +46,7 @@ pub fn shape_wrong(
 }
 
 /// What a nest lacks that has bytes, but not the header of an attribute.
-fn nest_wrong(header: usize, bytes: &[u8]) -> Option<Wrong>
+pub fn nest_wrong(header: usize, bytes: &[u8]) -> Option<Wrong>
     ensures { result ≡ nest_wrong header bytes.now }
 {
     if header == 0 && 0 < bytes.len() {
@@ -130,7 +130,7 @@ fn taken_by(validation: Validation, breach: Option<Breach>) -> Option<Breach>
 }
 
 /// What is wrong with a payload that cannot be of its kind.
-fn breach_wrong(breach: Option<Breach>) -> Option<Wrong>
+pub fn breach_wrong(breach: Option<Breach>) -> Option<Wrong>
     ensures { result ≡ breach_wrong breach }
 {
     match breach {
@@ -140,7 +140,7 @@ fn breach_wrong(breach: Option<Breach>) -> Option<Wrong>
 }
 
 /// How bytes are fewer than these.
-fn least_breach(size: usize, bytes: &[u8]) -> Option<Breach>
+pub fn least_breach(size: usize, bytes: &[u8]) -> Option<Breach>
     ensures { result ≡ least_breach size bytes.now }
 {
     if bytes.len() < size {
@@ -151,7 +151,7 @@ fn least_breach(size: usize, bytes: &[u8]) -> Option<Breach>
 }
 
 /// How bytes are not of this size.
-fn size_breach(size: usize, bytes: &[u8]) -> Option<Breach>
+pub fn size_breach(size: usize, bytes: &[u8]) -> Option<Breach>
     ensures { result ≡ size_breach size bytes.now }
 {
     if size < bytes.len() {
@@ -173,7 +173,7 @@ fn family_breach(family: u8, bytes: &[u8]) -> Option<Breach>
 }
 
 /// How bytes are no text with a zero.
-fn zero_breach(bytes: &[u8]) -> Option<Breach>
+pub fn zero_breach(bytes: &[u8]) -> Option<Breach>
     ensures { result ≡ zero_breach bytes.now }
 {
     match zero_in(bytes) {
@@ -201,7 +201,7 @@ fn bits_wrong(breach: Option<Breach>, bytes: &[u8]) -> Option<Wrong>
 }
 
 /// What is wrong with bits, behind which those stand that they select.
-fn unselected(bytes: &[u8]) -> Option<Wrong>
+pub fn unselected(bytes: &[u8]) -> Option<Wrong>
     requires { 8 ≤ length bytes.now }
     ensures { result ≡ unselected bytes.now }
 {
@@ -235,7 +235,7 @@ fn text_length(kind: Option<Kind>, bytes: &[u8]) -> usize
 }
 
 /// Whether a number is from the first to the last of these.
-fn is_within(span: Span, number: u64) -> bool
+pub fn is_within(span: Span, number: u64) -> bool
     ensures { result ≡ is_within span number }
 {
     span.first <= number && number <= span.last
@@ -280,7 +280,7 @@ fn values_wrong(options: &Options, bytes: &[u8]) -> Option<Wrong>
 }
 
 /// The range that a number is not in.
-fn range_wrong(range: Option<Span>, number: Number) -> Option<Wrong>
+pub fn range_wrong(range: Option<Span>, number: Number) -> Option<Wrong>
     ensures { result ≡ range_wrong range number }
 {
     let span = range?;
@@ -292,7 +292,7 @@ fn range_wrong(range: Option<Span>, number: Number) -> Option<Wrong>
 }
 
 /// The mask that a number has other bits than.
-fn mask_wrong(mask: Option<u64>, number: Number) -> Option<Wrong>
+pub fn mask_wrong(mask: Option<u64>, number: Number) -> Option<Wrong>
     ensures { result ≡ mask_wrong mask number }
 {
     let mask = mask?;

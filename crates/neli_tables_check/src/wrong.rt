@@ -17,6 +17,8 @@ pub enum Wrong {
     Length(Span),
     /// A number is none from the first to the last of these. Those of an array are not looked at.
     Range(Span),
+    /// A number with a sign is none from the first to the last of these.
+    Signed(i64, i64),
     /// A number has bits that are none of these. Those of an array are not looked at.
     Mask(u64),
     /// A `struct nla_bitfield32` has bits that it does not select.
@@ -47,6 +49,7 @@ impl fmt::Display for Wrong {
                 let (first, last) = (span.first, span.last);
                 write!(f, "not from {first} to {last}")
             }
+            Wrong::Signed(first, last) => write!(f, "not from {first} to {last}"),
             Wrong::Mask(mask) => write!(f, "bits that are not in 0x{mask:x}"),
             Wrong::Unselected => write!(f, "bits that are not selected"),
             Wrong::Unknown => write!(f, "unknown attribute"),

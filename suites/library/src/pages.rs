@@ -370,3 +370,37 @@ fn a_refusal_has_its_reason(rt: HostRuntime) -> Result<(), Fail> {
     );
     Ok(())
 }
+
+/// Replies of Linux 6.18 on netdev: the policy of NETDEV_CMD_QUEUE_GET (10), and its row of NETDEV_A_QUEUE_TYPE (3).
+const POLICY: [&[u8]; 2] = [
+    b"\x0a\x02\0\0\x18\0\x09\x80\x14\0\x0a\x80\x08\0\x01\0\x03\0\0\0\x08\0\x02\0\x04\0\0\0",
+    b"\x0a\x02\0\0\x2c\0\x08\x80\x28\0\x03\x80\x24\0\x03\x80\x0c\0\x04\0\0\0\0\0\0\0\0\0\
+    \x0c\0\x05\0\x01\0\0\0\0\0\0\0\x08\0\x01\0\x04\0\0\0",
+];
+
+/// What those policies do not allow of a request.
+fn unmet(
+    alloc: Global,
+    command: u8,
+    attributes: &[u8],
+) -> Result<Option<neli::schema::Unmet>, Fail> {
+    use neli::schema::Policies;
+
+    let mut policies = Policies::new(alloc);
+    for reply in POLICY {
+        policies.take_in(alloc, reply)?; // the payload of each reply
+    }
+    let policy = policies.policy_of(command, false); // true: of a request that begins a dump
+    let unmet = policy.and_then(|it| policies.check(it, attributes).err()); // offset 0: not from 0 to 1
+    Ok(unmet)
+}
+
+#[test]
+fn a_policy_of_the_kernel_is_met(rt: HostRuntime) -> Result<(), Fail> {
+    let alloc = rt.alloc();
+    assert_eq!(rt; unmet(alloc, 10, b"\x08\0\x03\0\x01\0\0\0")?, None);
+    let found = unmet(alloc, 10, b"\x08\0\x03\0\x02\0\0\0")?.expect(&rt, "type 2 is none");
+    assert_eq!(rt; found.offset, 0);
+    assert_eq!(rt; found.wrong.to_string(alloc)?.as_str(), "not from 0 to 1");
+    Ok(())
+}
