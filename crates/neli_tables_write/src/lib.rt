@@ -17,6 +17,7 @@ mod names;
 mod nested;
 mod open;
 mod refusal;
+mod refusing;
 mod request;
 mod structure;
 mod text;

@@ -8,14 +8,13 @@ use crate::attributes::{NESTED, NUMBER};
 use crate::choice::case_of;
 use crate::fields::set_field;
 use crate::json::{DEPTH, Others, set_fields};
-use crate::names::nearest_row;
 use crate::nested::{headed, list_of};
 use crate::open::{Open, nest_of};
 use crate::structure::{size_of, zeros};
 use crate::{Given, MAX_PAYLOAD, Refusal, Why, request_named, row_named, value_bytes};
 use arrayvec::ArrayVec;
 use neli_tables::{Kind, Options, Table, Tables, options_of};
-use neli_tables_walk::{Body, GenericHeader, LineName, MAX_DEPTH, Nest};
+use neli_tables_walk::{Body, GenericHeader, MAX_DEPTH, Nest};
 use serde_json::Value;
 use std::alloc::{AllocError, Global};
 
@@ -25,14 +24,14 @@ const GENERIC: u64 = 16;
 /// A message that is being written: its body, by the names of a family's table.
 #[derive(Drop)]
 pub struct Message<'w, 't> {
-    alloc: Global,
-    table: &'w Table<'t>,
+    pub(crate) alloc: Global,
+    pub(crate) table: &'w Table<'t>,
     line: usize,
     generic: Option<GenericHeader>,
     structure: Option<usize>,
     header: Vec<u8>,
     asked: Vec<Asked>,
-    levels: ArrayVec<Open, MAX_DEPTH>,
+    pub(crate) levels: ArrayVec<Open, MAX_DEPTH>,
 }
 
 /// The header of generic netlink of the message at this place, in a table of that protocol.
@@ -149,40 +148,6 @@ impl<'w, 't> Message<'w, 't> {
         let structure = self.structure.ok_or(Why::NoName)?;
         let row = row_named(self.table, structure, name.as_bytes()).ok_or(Why::NoName)?;
         set_field(self.alloc, self.table, row, &mut self.header, given)
-    }
-
-    /// The refusal of a path, of which this name stands in this section of the table.
-    fn refusal(&self, path: &str, section: Option<usize>, name: &str, why: Why) -> Refusal<'t> {
-        match self.refusal_in(path, section, name, why) {
-            Ok(refusal) => refusal,
-            Err(AllocError) => Refusal {
-                path: String::new(self.alloc),
-                why: Why::Memory,
-                nearest: None,
-            },
-        }
-    }
-
-    /// The same, where memory may run out.
-    fn refusal_in(
-        &self,
-        path: &str,
-        section: Option<usize>,
-        name: &str,
-        why: Why,
-    ) -> Result<Refusal<'t>, AllocError> {
-        let path = String::from_str(self.alloc, path)?;
-        let nearest = match (why, section) {
-            (Why::NoName, Some(section)) => {
-                nearest_row(self.alloc, self.table, &[section], name.as_bytes())?
-            }
-            _ => None,
-        };
-        Ok(Refusal {
-            path,
-            why,
-            nearest: nearest.map(|row| row.name),
-        })
     }
 
     /// Puts an attribute at a path: names of nests from the outside in and its own, with dots between them. Nests that
@@ -467,65 +432,6 @@ impl<'w, 't> Message<'w, 't> {
             Some(open) if self.levels.len() > 1 => open.nest.after,
             _ => self.structure,
         }
-    }
-
-    /// The refusal of this name in the innermost open list.
-    pub(crate) fn refusal_here(&self, name: &str, why: Why) -> Refusal<'t> {
-        match self.path_to(name) {
-            Ok(path) => {
-                let nearest = self.nearest_here(name, why);
-                Refusal { path, why, nearest }
-            }
-            Err(AllocError) => Refusal {
-                path: String::new(self.alloc),
-                why: Why::Memory,
-                nearest: None,
-            },
-        }
-    }
-
-    /// Where nothing here has this name, the nearest that an attribute or a field has; `None` too where memory runs out.
-    fn nearest_here(&self, name: &str, why: Why) -> Option<&'t [u8]> {
-        if why != Why::NoName {
-            return None;
-        }
-        let mut sections = ArrayVec::<usize, 2>::new();
-        if let Some(open) = self.levels.last() {
-            sections.push(open.nest.set);
-        }
-        if let Some(structure) = self.innermost_structure() {
-            sections.push(structure);
-        }
-        match nearest_row(self.alloc, self.table, &sections, name.as_bytes()) {
-            Ok(nearest) => Some(nearest?.name),
-            Err(AllocError) => None,
-        }
-    }
-
-    /// The names of the open nests, from the outside in, and this name, with dots between them.
-    fn path_to(&self, name: &str) -> Result<String, AllocError> {
-        let mut path = String::new(self.alloc);
-        for open in self.levels.iter() {
-            let Some(row) = open.row else {
-                continue;
-            };
-            let text = LineName {
-                table: self.table,
-                place: row,
-            };
-            path = if path.is_empty() {
-                format!(in self.alloc; "{text}")?
-            } else {
-                format!(in self.alloc; "{path}.{text}")?
-            };
-        }
-        if path.is_empty() {
-            return String::from_str(self.alloc, name);
-        }
-        if name.is_empty() {
-            return Ok(path);
-        }
-        format!(in self.alloc; "{path}.{name}")
     }
 
     /// Cuts a body without attributes that is longer than a message of so many bytes has room for.
