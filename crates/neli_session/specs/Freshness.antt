@@ -1,5 +1,6 @@
 -- A list of the kernel's objects that a program keeps: whether it is current, by all that happened to it.
-use Rattle.std.specs.Prelude.{◌≡◌, ℕ, Bool, true, false, ◌==◌, if◌then◌else◌, List, [], ◌∷◌, ◌++◌, Option, Some, None}
+use Rattle.std.specs.Prelude.{◌≡◌, ℕ, Bool, true, false, ◌==◌, ◌||◌, if◌then◌else◌, List, [], ◌∷◌, ◌++◌, Option, Some, None, negsuc}
+use Rattle.std.specs.Ordering.{int_eq}
 use Rattle.std.specs.List.{list_any}
 use Rattle.neli_session.specs.declared.freshness.Freshness.{Freshness}
 use Rattle.neli_session.specs.declared.freshness.Freshness.TheVariants as list
@@ -12,6 +13,14 @@ pub data Event : Type 0 where
   Requested : ℕ → Event
   Ended : ℕ → Verdict → Event
   Lost : Event
+
+-- a list with this verdict may be complete when it is requested again: its objects changed meanwhile, something of it
+-- was lost, or the kernel ran another dump (-16, EBUSY) or had no room for this one (-105, ENOBUFS)
+abbrev pub is_passing : Verdict → Bool
+is_passing stands.Interrupted = true
+is_passing (stands.Lost l) = true
+is_passing (stands.Failed code) = int_eq code (negsuc 15) || int_eq code (negsuc 104)
+is_passing v = false
 
 -- ---- by the calls, one after the other
 

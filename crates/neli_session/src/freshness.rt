@@ -1,9 +1,13 @@
 //! Whether a list of the kernel's objects that a program keeps is current.
 
 ghost use Rattle.std.specs.Prelude.{◌≡◌};
-ghost use Rattle.neli_session.specs.Freshness.{Ended, Lost, Requested, then_is};
+ghost use Rattle.neli_session.specs.Freshness.{Ended, Lost, Requested, is_passing, then_is};
 
 use crate::Verdict;
+use crate::receiving::ENOBUFS;
+
+/// The error of a kernel that runs another dump of the socket (`EBUSY` of `asm-generic/errno-base.h`).
+const EBUSY: i32 = 16;
 
 /// Whether a list that a program keeps, as that of the links, is current. It is kept so by what comes to a group that it
 /// is in, from a dump on that was read to its end, up to a loss.
@@ -47,5 +51,20 @@ impl Freshness {
         ensures { result ≡ then_is Lost self }
     {
         Freshness::Stale
+    }
+}
+
+impl Verdict {
+    /// Whether a list with this verdict may be complete when it is requested again: the listed objects changed
+    /// meanwhile, something of it was lost, or the kernel was busy with another dump (`EBUSY`) or had no room for it
+    /// (`ENOBUFS`).
+    pub fn is_passing(self) -> bool
+        ensures { result ≡ is_passing self }
+    {
+        match self {
+            Verdict::Interrupted | Verdict::Lost(_) => true,
+            Verdict::Failed(code) => code == -EBUSY || code == -ENOBUFS,
+            Verdict::Pending | Verdict::Complete | Verdict::Unanswered => false,
+        }
     }
 }

@@ -17,7 +17,7 @@ use std::error::Error;
 use std::fmt;
 
 /// The fault of a link that has dropped something: no buffer space (`ENOBUFS` of `asm-generic/errno.h`).
-const ENOBUFS: i32 = 105;
+pub(crate) const ENOBUFS: i32 = 105;
 
 /// Memory ran out within a datagram: its first messages were taken in, those before this place.
 #[derive(Clone, Copy, Debug, PartialEq, Eq)]

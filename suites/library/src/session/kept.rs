@@ -37,6 +37,26 @@ const ROWS: [(&[Event], Freshness); 11] = [
     ),
 ];
 
+/// Linux refuses a dump beside another with EBUSY, and begins one with ENOBUFS where it has no room.
+const PASSING: [(Verdict, bool); 9] = [
+    (Verdict::Pending, false),
+    (Verdict::Complete, false),
+    (Verdict::Interrupted, true),
+    (Verdict::Failed(-16), true),
+    (Verdict::Failed(-105), true),
+    (Verdict::Failed(-1), false),
+    (Verdict::Failed(16), false),
+    (Verdict::Lost(Loss::Datagram), true),
+    (Verdict::Unanswered, false),
+];
+
+#[test]
+fn a_list_may_be_complete_when_it_is_requested_again(rt: HostRuntime) {
+    for (verdict, is_passing) in PASSING.iter() {
+        assert_eq!(rt; verdict.is_passing(), *is_passing);
+    }
+}
+
 #[test]
 fn a_list_is_current_after_a_whole_answer_without_a_loss(rt: HostRuntime) {
     for (events, freshness) in ROWS.iter() {
