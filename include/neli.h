@@ -274,6 +274,19 @@ struct neli_named {
     size_t value, value_length;
 };
 
+/* Whether a list of the kernel's objects that a program keeps, as that of the links, is current. */
+enum neli_list_state {
+    NELI_LIST_STALE = 0,  /* it is to be requested */
+    NELI_LIST_READ = 1,   /* it is being read */
+    NELI_LIST_CURRENT = 2 /* it was read whole, and nothing was lost since it was requested */
+};
+
+/* The same of one list. It begins as zeros, and with a state that is none it is stale. */
+struct neli_list {
+    uint32_t state;  /* of enum neli_list_state */
+    uint32_t number; /* the sequence number of the request that reads it, while it is read */
+};
+
 /* ---- The exports ---- */
 
 int32_t neli_c_error_text(int32_t code, uint8_t *out, size_t room, size_t *length);
@@ -350,6 +363,10 @@ int32_t neli_c_session_verdict(struct neli_session *session, uint32_t number, st
 int32_t neli_c_session_close(struct neli_session *session, uint32_t number);
 int32_t neli_c_session_close_multicast(struct neli_session *session);
 int32_t neli_c_session_is_in_use(struct neli_session *session, uint32_t number);
+int32_t neli_c_list_requested(struct neli_list *list, uint32_t number);
+int32_t neli_c_list_ended(struct neli_list *list, uint32_t number, int32_t code);
+int32_t neli_c_list_lost(struct neli_list *list);
+int32_t neli_c_is_passing(int32_t code, int32_t error);
 int32_t neli_c_next_request(const uint8_t *bytes, size_t length, struct neli_walk *walk, uint32_t port,
                             struct neli_request *request);
 uint32_t neli_c_answering(int32_t protocol, uint16_t type, uint16_t flags, size_t body_length);
@@ -1008,6 +1025,27 @@ static inline int32_t neli_session_is_in_use(struct neli_session *session, uint3
 }
 
 /* ---- How Linux answers ---- */
+
+/* What happens to a list that a program keeps current by what comes to its group: it was requested with this sequence
+ * number; its request has ended with a verdict of this code, NELI_OK if it is whole; or something was lost of what came
+ * to groups. Where it is stale then, drop what came to groups and request it again. */
+static inline int32_t neli_list_requested(struct neli_list *list, uint32_t number) {
+    return list != NULL ? neli_c_list_requested(list, number) : NELI_NULL;
+}
+
+static inline int32_t neli_list_ended(struct neli_list *list, uint32_t number, int32_t code) {
+    return list != NULL ? neli_c_list_ended(list, number, code) : NELI_NULL;
+}
+
+static inline int32_t neli_list_lost(struct neli_list *list) {
+    return list != NULL ? neli_c_list_lost(list) : NELI_NULL;
+}
+
+/* 1 if a list may be complete when it is requested again, by the code and the error of its verdict: it was interrupted,
+ * something of it was lost, or the kernel was busy with another one (EBUSY) or had no room for it (ENOBUFS); else 0. */
+static inline int32_t neli_is_passing(int32_t code, int32_t error) {
+    return neli_c_is_passing(code, error);
+}
 
 /* How Linux answers a request, as a number of enum neli_answering: one of this protocol (NETLINK_ROUTE is 0), with this
  * type, these flags, and a body of this length. A protocol whose rules the library does not have is judged by the flags

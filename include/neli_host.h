@@ -207,9 +207,9 @@ int32_t neli_host_dump(struct neli_host *host, const struct neli_dump *dump, str
 int32_t neli_host_resync(struct neli_host *host, const struct neli_dump *dump, struct neli_message *last);
 
 /* The same of several lists, as those of links, addresses and routes: what came for groups is dropped, and then each
- * list is requested. If one may be complete when it is requested again, and its `times` allow it, all of this is done
- * again. Its codes are those of the list that was requested last; the later ones are as they were. Without a list it
- * drops what came. It needs a wait above 0. NELI_NULL also if a list has no `take`. */
+ * list is requested. One that may be complete when it is requested again is, if its `times` allow so many attempts; after
+ * a loss all of this is done again. Its codes are those of the list that was requested last; the later ones are as they
+ * were. Without a list it drops what came. It needs a wait above 0. NELI_NULL also if a list has no `take`. */
 int32_t neli_host_resync_all(struct neli_host *host, const struct neli_dump *dumps, size_t count,
                              struct neli_message *last);
 

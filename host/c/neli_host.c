@@ -98,18 +98,18 @@ int32_t neli_host_receive(struct neli_host *host, size_t *length, uint32_t *grou
 static bool is_passing(const struct neli_host *host, int32_t code, const struct neli_verdict *verdict) {
     int fault = host->link.fault;
     if (code == NELI_LINK) return fault != EAGAIN && fault != EINTR && fault != ECANCELED;
-    if (code == NELI_KERNEL_ERROR) return verdict->error == -EBUSY || verdict->error == -ENOBUFS;
-    return code == NELI_INTERRUPTED;
+    return neli_is_passing(code, verdict->error);
 }
 
 /* Requests a list once. */
-static int32_t take_dump(struct neli_host *host, const struct neli_dump *dump, struct neli_message *last,
-                         struct neli_verdict *verdict) {
+static int32_t take_dump(struct neli_host *host, const struct neli_dump *dump, struct neli_list *list,
+                         struct neli_message *last, struct neli_verdict *verdict) {
     size_t handle;
     uint16_t flags = dump->flags | NLM_F_DUMP;
     int32_t code = neli_host_send(host, dump->type, flags, dump->body, dump->length, &handle);
     if (code != NELI_OK) return code;
     bool has_end = false;
+    neli_list_requested(list, (uint32_t)handle);
     dump->take(host, NULL, dump->list);
     while ((code = neli_host_next(host, handle, last)) == NELI_ITEM) {
         has_end = last->type == NLMSG_DONE;
@@ -117,25 +117,34 @@ static int32_t take_dump(struct neli_host *host, const struct neli_dump *dump, s
     }
     int32_t judged = neli_host_verdict(host, handle, verdict);
     neli_host_close_request(host, handle);
-    if (code == NELI_END && judged == NELI_OK && !has_end) return NELI_UNENDED;
-    return code == NELI_END ? judged : code;
+    if (code == NELI_END) code = judged == NELI_OK && !has_end ? NELI_UNENDED : judged;
+    neli_list_ended(list, (uint32_t)handle, code);
+    return code;
 }
 
-/* Requests lists, one after the other, and all of them again as long as that may help. */
+/* Requests lists, one after the other, and those that are stale again as long as that may help: after a loss all. */
 static int32_t take_all(struct neli_host *host, const struct neli_dump *dumps, size_t count, bool drops,
                         struct neli_message *last) {
-    struct neli_verdict verdict;
-    if (host == NULL || count > PTRDIFF_MAX / sizeof *dumps || !neli_is_slice(dumps, count) || last == NULL)
+    struct neli_verdict verdict = {0};
+    if (host == NULL || count >= PTRDIFF_MAX / sizeof *dumps || !neli_is_slice(dumps, count) || last == NULL)
         return NELI_NULL;
     for (size_t i = 0; i < count; i++)
         if (dumps[i].take == NULL || !neli_is_slice(dumps[i].body, dumps[i].length)) return NELI_NULL;
-    for (int times = 1;; times++) {
-        size_t taken = 0;
-        int32_t code = drops ? neli_host_take_in(host) : NELI_OK;
-        if (drops) host_drop(host, NELI_READER_MULTICAST);
-        while (taken < count && code == NELI_OK) code = take_dump(host, &dumps[taken++], last, &verdict);
-        if (taken == 0 || times >= dumps[taken - 1].times || !is_passing(host, code, &verdict)) return code;
+    struct neli_list *lists = calloc(count + 1, sizeof *lists);
+    int32_t code = NELI_MEMORY;
+    bool is_lost = true;
+    for (int times = 1; lists != NULL; times++) {
+        size_t i = 0;
+        code = drops && is_lost ? neli_host_take_in(host) : NELI_OK;
+        if (drops && is_lost) host_drop(host, NELI_READER_MULTICAST);
+        for (; i < count && code == NELI_OK; i++)
+            if (lists[i].state == NELI_LIST_STALE) code = take_dump(host, &dumps[i], &lists[i], last, &verdict);
+        is_lost = code == NELI_LINK || code == NELI_SHORT;
+        for (size_t j = 0; is_lost && j < count; j++) neli_list_lost(&lists[j]);
+        if (i == 0 || times >= dumps[i - 1].times || !is_passing(host, code, &verdict)) break;
     }
+    free(lists);
+    return code;
 }
 
 int32_t neli_host_dump(struct neli_host *host, const struct neli_dump *dump, struct neli_message *last) {

@@ -19,6 +19,7 @@ struct kernel {
     int loses;        /* the fault that the next receive returns, or 0 */
     bool is_long;     /* whether the next datagram is longer than its room */
     int delays;       /* so many waits it takes until something is there */
+    int interrupts;   /* so many dumps more, and one is marked as interrupted */
     int dump_ends;    /* so many datagrams of a dump are not received yet */
     int sent, waited; /* how often each was called */
 };
@@ -48,7 +49,8 @@ static void answer_dump(struct kernel *kernel, const struct neli_request *reques
     WANT(neli_kernel_dump_new(&dump, request, 200) == NELI_OK);
     while (link.ifi_index++ < LINKS)
         WANT(neli_kernel_dump_push(&dump, RTM_NEWLINK, 0, &link, sizeof link) == NELI_OK);
-    WANT(neli_kernel_dump_finish(&dump, 0, 0, NULL, 0) == NELI_OK);
+    uint16_t mark = kernel->interrupts > 0 && --kernel->interrupts == 0 ? NLM_F_DUMP_INTR : 0;
+    WANT(neli_kernel_dump_finish(&dump, mark, 0, NULL, 0) == NELI_OK);
     do {
         uint8_t *out = append(kernel, 0, &length);
         code = neli_kernel_dump_next(&dump, out, 512, length);
@@ -278,6 +280,42 @@ static void a_refusal_says_what_is_missing(void) {
     neli_host_close(host);
 }
 
+/* A list of links that is read, and a fault of the link at its next beginning. */
+struct taken {
+    struct kernel *kernel;
+    int links, begun, loses;
+};
+
+static void take_links(const struct neli_host *host, const struct neli_message *message, void *list) {
+    struct taken *taken = list;
+    (void)host;
+    taken->links = message != NULL ? taken->links + 1 : 0;
+    if (message != NULL) return;
+    taken->begun++;
+    taken->kernel->loses = taken->loses;
+    taken->loses = 0;
+}
+
+/* Of two lists that which was interrupted is requested again, and after a loss each. */
+static void stale_lists_are_requested_again(void) {
+    static const struct ifinfomsg all;
+    static struct kernel kernel;
+    struct neli_host *host = host_over(&kernel);
+    struct neli_message last;
+    struct taken lists[] = {{&kernel, 0, 0, 0}, {&kernel, 0, 0, 0}};
+    const struct neli_dump dumps[] = {
+        {RTM_GETLINK, 0, &all, sizeof all, 3, take_links, &lists[0]},
+        {RTM_GETLINK, 0, &all, sizeof all, 3, take_links, &lists[1]},
+    };
+    kernel.interrupts = 2;
+    WANT(neli_host_resync_all(host, dumps, 2, &last) == NELI_OK && kernel.sent == 3);
+    WANT(lists[0].begun == 1 && lists[1].begun == 2 && lists[0].links == LINKS && lists[1].links == LINKS);
+    lists[1].loses = ENOBUFS;
+    WANT(neli_host_resync_all(host, dumps, 2, &last) == NELI_OK && kernel.sent == 7);
+    WANT(lists[0].begun == 3 && lists[1].begun == 4 && lists[0].links == LINKS && lists[1].links == LINKS);
+    neli_host_close(host);
+}
+
 static void a_transport_has_all_functions(void) {
     static struct kernel kernel;
     const struct neli_transport over[] = {
@@ -299,6 +337,7 @@ const struct test tests[] = {
     TEST(a_datagram_longer_than_its_room),
     TEST(answers_that_come_later),
     TEST(a_refusal_says_what_is_missing),
+    TEST(stale_lists_are_requested_again),
     TEST(a_transport_has_all_functions),
     {0},
 };

@@ -111,6 +111,7 @@ def _library():
         "neli_version": (ctypes.c_char_p, []),
         "neli_stamp": (ctypes.c_char_p, []),
         "neli_c_answering": (i32, [i32, u16, u16, size]),
+        "neli_c_is_passing": (i32, [i32, i32]),
         "neli_c_error_text": (i32, [i32, ctypes.c_char_p, size, pointer]),
         "neli_c_next_message": (i32, [ctypes.c_char_p, size, pointer, pointer]),
         "neli_c_next_attributes": (i32, [ctypes.c_char_p, size, pointer, pointer, size, pointer]),
@@ -189,8 +190,7 @@ class NetlinkError(OSError):
         """Whether a list with this error may be complete when it is requested again, as neli_host_dump has it."""
         if self.status == LINK:
             return self.code not in (errno.EAGAIN, errno.EINTR, errno.ECANCELED)
-        is_busy = self.status == KERNEL_ERROR and self.code in (errno.EBUSY, errno.ENOBUFS)
-        return is_busy or self.status == INTERRUPTED
+        return bool(_lib.neli_c_is_passing(self.status, -self.code))
 
     @property
     def text(self) -> str | None:
@@ -675,6 +675,14 @@ def _tries(times):
     return reversed(range(max(1, times)))
 
 
+def _want_passing(error, left, found):
+    """Raises the error if no other try may help; after a loss all that was found is stale."""
+    if not left or not error.is_passing:
+        raise error
+    if error.status == LINK:
+        found.clear()
+
+
 def _finish(future):
     if not future.done():
         future.set_result(None)
@@ -867,22 +875,27 @@ class NetlinkSocket:
         """The whole state after a loss: drops what came to groups, until nothing is left, and returns the messages of
         each of these lists. A list is the type of its dump, or that, a body and flags, as `dump` takes them.
 
-        What comes to groups meanwhile and later is newer: read it by `get`, and apply it to the lists. All of it is
-        done again, at most so many times, where `dump` would request a list again; then it raises as `dump` does.
+        What comes to groups meanwhile and later is newer: read it by `get`, and apply it to the lists. A list is
+        requested again where `dump` would, and after a loss all are, in at most so many tries; then it raises as `dump`.
         """
         _check_number("times", times)
         return self._whole(self._lists(lists), times, True)
 
     def _whole(self, lists, times, is_resync):
         """The messages of lists, which are requested again while they may be complete then."""
+        found: dict[int, list[Message]] = {}
         for left in _tries(times):
-            if is_resync:
-                self._call(self._drop)
+            self._begin(found, is_resync)
             try:
-                return [self.nlm_request(*it) for it in lists]
+                for i in range(len(found), len(lists)):
+                    found[i] = self.nlm_request(*lists[i])
+                return list(found.values())
             except NetlinkError as error:
-                if not left or not error.is_passing:
-                    raise
+                _want_passing(error, left, found)
+
+    def _begin(self, found, is_resync):
+        if is_resync and not found:
+            self._call(self._drop)
 
     def get(self) -> Message:
         """The next message for a group. If some were lost, raises a NetlinkError of ENOBUFS; more messages follow.
@@ -935,14 +948,15 @@ class NetlinkSocket:
         return await self._awhole(self._lists(lists), times, True)
 
     async def _awhole(self, lists, times, is_resync):
+        found: dict[int, list[Message]] = {}
         for left in _tries(times):
-            if is_resync:
-                self._call(self._drop)
+            self._begin(found, is_resync)
             try:
-                return [await self.anlm_request(*it) for it in lists]
+                for i in range(len(found), len(lists)):
+                    found[i] = await self.anlm_request(*lists[i])
+                return list(found.values())
             except NetlinkError as error:
-                if not left or not error.is_passing:
-                    raise
+                _want_passing(error, left, found)
 
     async def aget(self) -> Message:
         """As `get`. A task that is cancelled in it loses no message."""

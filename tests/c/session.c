@@ -313,6 +313,34 @@ static void check_ready(struct neli_session *session) {
     CHECK(neli_session_is_ready(session, (enum neli_reader)3, 0) == NELI_WAITS);
 }
 
+/* A list is current after a whole answer to the request that reads it, without a loss since that was sent. */
+static void check_lists(void) {
+    struct neli_list list = {0};
+    CHECK(neli_list_ended(&list, 7, NELI_OK) == NELI_OK && list.state == NELI_LIST_STALE);
+    CHECK(neli_list_requested(&list, 7) == NELI_OK && list.state == NELI_LIST_READ && list.number == 7);
+    CHECK(neli_list_ended(&list, 8, NELI_OK) == NELI_OK && list.state == NELI_LIST_READ);
+    CHECK(neli_list_ended(&list, 7, NELI_OK) == NELI_OK && list.state == NELI_LIST_CURRENT);
+    CHECK(neli_list_lost(&list) == NELI_OK && list.state == NELI_LIST_STALE);
+    for (int32_t code = NELI_UNENDED; code <= NELI_INTERRUPTED; code++) {
+        CHECK(neli_list_requested(&list, 9) == NELI_OK && neli_list_ended(&list, 9, code) == NELI_OK);
+        CHECK(list.state == (code == NELI_OK ? NELI_LIST_CURRENT : NELI_LIST_STALE));
+    }
+    CHECK(neli_list_requested(&list, 7) == NELI_OK && neli_list_lost(&list) == NELI_OK);
+    CHECK(neli_list_ended(&list, 7, NELI_OK) == NELI_OK && list.state == NELI_LIST_STALE);
+    list.state = 3;
+    CHECK(neli_list_ended(&list, 0, NELI_OK) == NELI_OK && list.state == NELI_LIST_STALE);
+    CHECK(neli_list_requested(NULL, 7) == NELI_NULL && neli_list_ended(NULL, 7, NELI_OK) == NELI_NULL);
+    CHECK(neli_list_lost(NULL) == NELI_NULL);
+}
+
+/* Linux refuses a dump beside another with EBUSY (16), and begins one without room for it with ENOBUFS. */
+static void check_passing(void) {
+    CHECK(neli_is_passing(NELI_INTERRUPTED, 0) && neli_is_passing(NELI_LINK, ENOBUFS_) && neli_is_passing(NELI_SHORT, 0));
+    CHECK(neli_is_passing(NELI_KERNEL_ERROR, -16) && neli_is_passing(NELI_KERNEL_ERROR, -ENOBUFS_));
+    CHECK(!neli_is_passing(NELI_KERNEL_ERROR, -EPERM_) && !neli_is_passing(NELI_KERNEL_ERROR, 16));
+    CHECK(!neli_is_passing(NELI_OK, 0) && !neli_is_passing(NELI_WAITS, 0) && !neli_is_passing(NELI_UNENDED, 0));
+}
+
 int main(void) {
     struct neli_session session = NELI_SESSION_CLOSED;
     check_refusals();
@@ -322,6 +350,8 @@ int main(void) {
     check_ready(&session);
     check_others(&session);
     check_written(&session);
+    check_lists();
+    check_passing();
     CHECK(neli_session_free(&session) == NELI_OK && neli_session_free(&session) == NELI_OK);
     CHECK(neli_session_quiet(&session) == NELI_STATE);
     printf("session.c: %s\n", failures == 0 ? "each call answers as include/neli.h says" : "failed");

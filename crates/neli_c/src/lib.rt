@@ -6,6 +6,7 @@
 //! - [`write`] writes messages, attributes and nests into the caller's bytes.
 //! - [`router`] has a router behind a struct that the library alone looks into.
 //! - [`session`] has a session behind such a struct.
+//! - [`kept`] says whether a list that a program keeps is current.
 //! - [`expecting`] says how Linux answers a request, and where its answer ends.
 //! - [`kernel`] makes a kernel's answers to a request, and [`dump`] those in several messages.
 //! - [`tables`] has families' tables, [`printed`] messages by them as text and as JSON, and [`named`] their attributes
@@ -19,6 +20,7 @@
 pub mod answer;
 pub mod dump;
 pub mod expecting;
+pub mod kept;
 pub mod kernel;
 mod lending;
 pub mod lent;

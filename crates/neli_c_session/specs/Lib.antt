@@ -1,4 +1,5 @@
 pub mod Calls
+pub mod Lists
 pub mod Outcomes
 pub mod Places
 pub mod Reads
