@@ -5,6 +5,7 @@
 pub mod kernel;
 pub mod tables;
 
+use crate::lent::LentMessage;
 use std::ffi::{c_int, c_uint, c_ulong, c_void};
 use std::io;
 use std::os::fd::{AsRawFd, FromRawFd, OwnedFd, RawFd};
@@ -380,12 +381,12 @@ impl Session {
         (code, lent.error)
     }
 
-    /// The item that the last call has lent, if it was `next` and there was one: its header, and its payload.
-    pub fn lent(&self) -> Option<(&Message, &[u8])> {
+    /// The item that the last call has lent, if it was `next` and there was one.
+    pub fn lent(&self) -> Option<LentMessage<'_>> {
         let lent = self.lent.as_ref()?;
         // SAFETY: the library keeps these bytes until the next call of the session, which takes `&mut self`, and each
         // sets `lent` to none before. So they stay while this borrow of the session does.
-        Some((&lent.message, unsafe { std::slice::from_raw_parts(lent.bytes, lent.length) }))
+        Some(LentMessage::new(&lent.message, unsafe { std::slice::from_raw_parts(lent.bytes, lent.length) }))
     }
 
     /// Goes on to a reader's next item.

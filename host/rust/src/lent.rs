@@ -15,7 +15,7 @@ const NESTED: u16 = 0x8000;
 /// request and of its attributes.
 #[derive(Clone, Copy, Debug)]
 pub struct LentMessage<'b> {
-    head: ffi::Message,
+    pub(crate) head: ffi::Message,
     payload: &'b [u8],
 }
 

@@ -79,9 +79,8 @@ impl<L: Link + 'static> LendingRouter<L> {
     /// If the kernel refuses a request, or if something is lost or can't be read, that is an error in an item's place,
     /// and is passed. Refused also if the wait has ended, as `Memory`, and as `ClosedChannel` if the handle is not open.
     pub fn lend_next(&mut self, handle: &LendingHandle) -> Result<Option<LentMessage<'_>>> {
-        let has_item = self.0.next(handle.0, State::lend)?;
-        let lent = self.0.state_mut().session.lent().filter(|_| has_item);
-        Ok(lent.map(|(head, payload)| LentMessage::new(head, payload)))
+        self.0.next(handle.0, State::lend)?;
+        Ok(self.0.state_mut().session.lent())
     }
 
     /// Goes on to a handle's next item; if none waits, nothing changes. It is never refused.

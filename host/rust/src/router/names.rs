@@ -59,11 +59,9 @@ impl<L: Link + 'static> NlRouter<L> {
                 return Ok((attributes.get_attr_payload_as_with_len(CtrlAttr::FamilyName)?, group));
             }
         }
-        match (families.error, families.verdict) {
-            (Some(error), _) => Err(error),
-            (None, Verdict::Complete) => Err(RouterError::new(format!("no group {id}"))),
-            (None, _) => Err(RouterError::new("the list of families is not complete")),
-        }
+        let none = format!("no group {id}");
+        let why = if families.verdict == Verdict::Complete { &none } else { "the list of families is not complete" };
+        Err(families.error.unwrap_or_else(|| RouterError::new(why)))
     }
 }
 

@@ -1,18 +1,19 @@
 //! What a router and its handles share: the library's session, which knows who gets what, and what it lacks, the link.
 //!
-//! There is one lock, which nobody holds while it sends or waits. Of the threads that wait one watches the link.
+//! There is one lock of the state, which nobody holds while it sends or waits. Of the threads that wait one watches the
+//! link.
 
 use crate::consts::nl::NlmF;
 use crate::consts::socket::NlFamily;
 use crate::err::{RouterError, SocketError, done, refused};
 use crate::ffi::{self, Reader};
 use crate::lent::LentMessage;
-use crate::link::{Arrived, Link};
+use crate::link::Link;
 use crate::nl::message_with;
 use crate::rtnl::default_body;
 use crate::socket::synchronous::Wait;
 use std::collections::HashMap;
-use std::io::{Error, ErrorKind};
+use std::io::ErrorKind;
 use std::ops::Range;
 use std::sync::{Mutex, MutexGuard, PoisonError};
 use std::task::{Poll, Waker, ready};
@@ -33,17 +34,13 @@ pub(super) type Request = (u16, NlmF, Vec<u8>);
 /// What is read: the header of a message, and its payload; none at the end.
 pub(super) type Read = Result<Option<(ffi::Message, Vec<u8>)>>;
 
-/// What takes something for a reader.
-pub(super) type Take<T> = fn(&mut State, Reader) -> Poll<Result<T>>;
-
-/// A datagram in the room, its group, and whether the link is in that; or the number of a fault.
-type Held = Result<(Range<usize>, u32, bool), i32>;
-
 type Locked<'s> = MutexGuard<'s, State>;
 
 #[derive(Debug)]
 pub(super) struct Shared<L: ?Sized = dyn Link> {
     state: Mutex<State>,
+    /// Held by the one that sends.
+    sending: Mutex<()>,
     pub(super) link: L,
 }
 
@@ -53,13 +50,13 @@ pub(super) struct State {
     /// The number of the next request.
     pub(super) number: u32,
     pub(super) keeps_unasked: bool,
-    is_sending: bool,
     room: Vec<u8>,
-    /// What was received last, or its rest, while the library has no memory for it.
-    held: Option<Held>,
+    /// What was received last, or its rest, while the library has no memory for it: a datagram by its place in the room
+    /// and its group, or the number of a fault.
+    held: Option<Result<(Range<usize>, u32), i32>>,
     faults: u32,
-    /// The errors of the link that have no number of the system.
-    others: Vec<SocketError>,
+    /// The errors of the link by the numbers that the session has for them: the system's, or one below 0.
+    errors: HashMap<i32, SocketError>,
     waiting: HashMap<Reader, Waiter>,
 }
 
@@ -77,14 +74,13 @@ impl<L: Link> Shared<L> {
             session: ffi::Session::new(link.family().into(), link.port()).map_err(|_| RouterError::Memory)?,
             number: 0,
             keeps_unasked: false,
-            is_sending: false,
             room: Vec::new(),
             held: None,
             faults: 0,
-            others: Vec::new(),
+            errors: HashMap::new(),
             waiting: HashMap::new(),
         });
-        Ok(Shared { state, link })
+        Ok(Shared { state, sending: Mutex::default(), link })
     }
 
     /// The state of one owner.
@@ -102,7 +98,7 @@ impl<L: Link + ?Sized> Shared<L> {
     pub(super) fn send(&self, requests: &[Request]) -> Result<Vec<Reader>> {
         let (mut state, mut datagram, mut readers) = (self.state(), Vec::new(), Vec::new());
         let (port, is_routing) = (self.link.port(), self.link.family() == NlFamily::Route);
-        let (first, mut number) = (state.number, state.number);
+        let mut number = state.number;
         for (kind, flags, body) in requests {
             let body = if is_routing && body.is_empty() { default_body(*kind) } else { body };
             let flags = (*flags | NlmF::REQUEST).bits();
@@ -114,53 +110,60 @@ impl<L: Link + ?Sized> Shared<L> {
         if !readers.is_empty() {
             done(state.session.send_all(&datagram))?;
             state.number = number;
-            if let Err(error) = self.flush(state, Some(first)) {
-                readers.iter().for_each(|it| self.state().close(*it));
-                return Err(error.into());
-            }
+            let close_all = |_: &_| readers.iter().for_each(|it| self.state().close(*it));
+            drop(self.flush(state, &datagram).inspect_err(close_all)?);
         }
         Ok(readers)
     }
 
     /// Sends what may go out, and returns whether that was anything. Refused if the link refuses the caller's own
-    /// datagram, which begins with this number.
-    fn flush<'s>(&'s self, mut state: Locked<'s>, own: Option<u32>) -> Result<(Locked<'s>, bool), SocketError> {
-        let (mut has_sent, mut refusal) = (false, None);
-        while !state.is_sending {
+    /// datagram.
+    fn flush<'s>(&'s self, mut state: Locked<'s>, own: &[u8]) -> Result<(Locked<'s>, bool), SocketError> {
+        let (mut has_sent, mut own_sent) = (false, Ok(()));
+        while let Ok(_turn) = self.sending.try_lock() {
             let Some(datagram) = state.session.outgoing().map(<[u8]>::to_vec) else { break };
-            state.is_sending = true;
             drop(state);
             let sent = self.link.send(&datagram);
             state = self.state();
-            state.is_sending = false;
-            let is_own = own.is_some_and(|it| datagram[8..12] == it.to_ne_bytes());
-            match sent {
+            match &sent {
                 Err(SocketError::Io(error)) if error.kind() == ErrorKind::WouldBlock => break,
-                Ok(()) => state.session.sent(),
                 Err(error) => {
-                    refusal = refusal.or(is_own.then(|| error.again()));
-                    let number = state.number_of(error);
+                    let number = state.number_of(error.again());
                     state.session.not_sent(number);
                 }
+                Ok(()) => state.session.sent(),
             }
             has_sent = true;
-            if !is_own {
+            if datagram == own {
+                own_sent = sent;
+            } else {
                 // Who waits for its answer saw the link empty before: it learns so whether nothing comes.
                 self.wake_all(&state);
             }
         }
-        refusal.map_or(Ok((state, has_sent)), Err)
+        own_sent.map(|()| (state, has_sent))
     }
 
-    /// Takes in what is held, or the next datagram or fault, and wakes who waits for it; false if none has arrived.
+    /// Takes in what is held, or the next datagram or fault, and wakes who waits for it; false if none has arrived. A link
+    /// that has nothing but faults is gone: the last of them is a refusal.
     fn take_in(&self, state: &mut State) -> Result<bool> {
         if state.held.is_none() {
-            state.held = self.arrived(state)?;
+            let arrived = self.link.receive(&mut state.room);
+            let is_fault = arrived.as_ref().is_err_and(SocketError::is_fault);
+            state.faults = if is_fault { state.faults.saturating_add(1) } else { 0 };
+            state.held = match arrived {
+                Err(error) if is_fault && state.faults <= FAULTS => Some(Err(state.number_of(error))),
+                arrived => arrived?.map(|it| Ok((0..completed(&mut state.room, it.length), it.group))),
+            };
         }
         match &mut state.held {
             Some(Err(number)) => done(state.session.fault(*number))?,
-            Some(Ok((rest, group, is_joined))) => {
-                let (code, taken) = state.session.receive(&state.room[rest.clone()], *group, *is_joined);
+            Some(Ok((rest, group))) => {
+                let datagram = &state.room[rest.clone()];
+                // The kernel sends the notification of an own change in a group's name also where that is not joined.
+                let is_own = *group != 0 && ffi::messages(datagram).any(|(_, it)| it.port == self.link.port());
+                let is_joined = is_own && self.link.memberships().is_ok_and(|it| it.is_set(*group as usize));
+                let (code, taken) = state.session.receive(datagram, *group, is_joined);
                 rest.start += taken;
                 done(code)?;
             }
@@ -178,24 +181,6 @@ impl<L: Link + ?Sized> Shared<L> {
         Ok(state.held.take().is_some())
     }
 
-    /// The next datagram or fault; none if neither has arrived. A link that has nothing but faults is gone: the last of
-    /// them is a refusal.
-    fn arrived(&self, state: &mut State) -> Result<Option<Held>> {
-        let arrived = self.link.receive(&mut state.room);
-        let is_fault = arrived.as_ref().is_err_and(SocketError::is_fault);
-        state.faults = if is_fault { state.faults.saturating_add(1) } else { 0 };
-        let Arrived { length, group } = match arrived {
-            Err(error) if is_fault && state.faults <= FAULTS => return Ok(Some(Err(state.number_of(error)))),
-            Ok(Some(datagram)) => datagram,
-            arrived => return Ok(arrived.map(|_| None)?),
-        };
-        let end = completed(&mut state.room, length);
-        // The kernel sends the notification of an own change in a group's name also where that is not joined.
-        let is_own = group != 0 && ffi::messages(&state.room[..end]).any(|(_, it)| it.port == self.link.port());
-        let is_joined = is_own && self.link.memberships().is_ok_and(|it| it.is_set(group as usize));
-        Ok(Some(Ok((0..end, group, is_joined))))
-    }
-
     /// Takes in what has arrived, and sends what may go out then, until this is ready or nothing is left. Returns whether
     /// more may be there too.
     fn advance<T>(&self, mut take: impl FnMut(&mut State) -> Poll<T>) -> Result<(Locked<'_>, Poll<T>, bool)> {
@@ -206,7 +191,7 @@ impl<L: Link + ?Sized> Shared<L> {
                 return Ok((state, taken, has_more));
             }
             let has_come = self.take_in(&mut state)?;
-            (state, has_more) = self.flush(state, None)?;
+            (state, has_more) = self.flush(state, &[])?;
             has_more |= has_come;
         }
         Ok((state, Poll::Pending, true))
@@ -222,7 +207,7 @@ impl<L: Link + ?Sized> Shared<L> {
     }
 
     /// What `take` takes for a reader; it waits until that is ready.
-    pub(super) fn next<T>(&self, reader: Reader, take: Take<T>) -> Result<T> {
+    pub(super) fn next<T>(&self, reader: Reader, take: fn(&mut State, Reader) -> Poll<Result<T>>) -> Result<T> {
         if let Poll::Ready(next) = take(&mut self.state(), reader) {
             return next;
         }
@@ -288,20 +273,14 @@ impl State {
         self.waiting.values().any(|it| matches!(it, Waiter::AtLink))
     }
 
-    /// Whether a reader has a next item, which the session lends and which stays, or its end has come; pending if it
-    /// waits. What is in an item's place is passed: a loss, or the kernel's refusal of a request.
-    pub(super) fn lend(&mut self, reader: Reader) -> Poll<Result<bool>> {
+    /// Has the session lend a reader's next item, which stays, or nothing at the end; pending if it waits. What is in an
+    /// item's place is passed: a loss, or the kernel's refusal of a request.
+    pub(super) fn lend(&mut self, reader: Reader) -> Poll<Result<()>> {
         let error = match self.session.next(reader) {
             (ffi::WAITS, _) => return Poll::Pending,
-            (code @ (ffi::ITEM | ffi::END), _) => return Poll::Ready(Ok(code == ffi::ITEM)),
-            (ffi::KERNEL_ERROR, _) => match self.session.lent() {
-                Some((head, payload)) => LentMessage::new(head, payload).to_refusal(),
-                None => RouterError::ClosedChannel,
-            },
-            (ffi::LINK, number) => match self.others.get(!number as usize) {
-                Some(error) => error.again().into(),
-                None => Error::from_raw_os_error(number).into(),
-            },
+            (ffi::ITEM | ffi::END, _) => return Poll::Ready(Ok(())),
+            (ffi::KERNEL_ERROR, _) => self.session.lent().map_or(RouterError::ClosedChannel, LentMessage::to_refusal),
+            (ffi::LINK, number) => self.errors.get(&number).map_or(RouterError::ClosedChannel, |it| it.again().into()),
             (code, _) => refused(code).into(),
         };
         self.session.pass(reader);
@@ -310,9 +289,9 @@ impl State {
 
     /// Reads the next item, or the end; pending if it waits.
     pub(super) fn read(&mut self, reader: Reader) -> Poll<Read> {
-        let has_item = ready!(self.lend(reader))?;
-        let owned = self.session.lent().map(|(head, payload)| (*head, payload.to_vec()));
-        if has_item {
+        ready!(self.lend(reader))?;
+        let owned = self.session.lent().map(|it| (it.head, it.nl_payload().to_vec()));
+        if owned.is_some() {
             self.session.pass(reader);
         }
         Poll::Ready(Ok(owned))
@@ -325,12 +304,11 @@ impl State {
         self.session.close(reader);
     }
 
-    /// The number of an error of the link: the system's, or one below 0, by its place among the others.
+    /// The number of an error of the link.
     fn number_of(&mut self, error: SocketError) -> i32 {
-        error.raw_os_error().unwrap_or_else(|| {
-            self.others.push(error);
-            -(self.others.len() as i32)
-        })
+        let number = error.raw_os_error().unwrap_or(!(self.errors.len() as i32));
+        self.errors.insert(number, error);
+        number
     }
 }
 

@@ -347,15 +347,11 @@ pub struct Lists<'s> {
 impl<'s> Lists<'s> {
     /// Does this at most so many times, and once at least, as long as a list may be complete when it is requested again.
     fn repeat<R>(shared: &'s Arc<Shared>, times: usize, mut once: impl FnMut(&Self) -> Result<R>) -> Result<R> {
-        let mut left = times;
-        loop {
-            let lists = Lists { shared, is_passing: Cell::new(false) };
-            let made = once(&lists);
-            left = left.saturating_sub(1);
-            if left == 0 || !lists.is_passing.get() {
-                return made;
-            }
-        }
+        let lists = Lists { shared, is_passing: Cell::new(false) };
+        (1..times).take_while(|_| lists.is_passing.take()).fold(once(&lists), |last, _| {
+            drop(last);
+            once(&lists)
+        })
     }
 
     /// Requests a list once: its messages, in order, without the end. Refused if it is not complete, and as
@@ -370,29 +366,24 @@ impl<'s> Lists<'s> {
 
     /// Requests a list once, and reads it to its end. Refused if the wait ends or memory runs out before.
     fn request<T: NlType, P: FromBytes>(&self, request: &Request) -> Result<Dump<T, P>> {
-        let [reader] = self.shared.send(std::slice::from_ref(request))?[..] else {
-            return Err(RouterError::ClosedChannel);
-        };
+        let reader = self.shared.send(std::slice::from_ref(request))?.pop().ok_or(RouterError::ClosedChannel)?;
         let mut replies = NlRouterReceiverHandle::<T, P>::new(self.shared.clone(), reader);
-        let (mut messages, mut error, mut has_end) = (Vec::new(), None, false);
+        let (mut messages, mut error, mut end) = (Vec::new(), None, None);
         for reply in &mut replies {
             match reply {
-                Ok(message) if message.is_done() => {
-                    has_end = true;
-                    error = error.or(message.failed_end().map(RouterError::Nlmsgerr));
-                }
+                Ok(message) if message.is_done() => end = Some(message),
                 Ok(message) => messages.push(message),
                 Err(unended) if unended.is_unended() => return Err(unended),
                 Err(refusal) => error = error.or(Some(refusal)),
             }
         }
+        let error = error.or_else(|| end.as_ref()?.failed_end().map(RouterError::Nlmsgerr));
         // A request that the kernel answers by nothing, as one without its header, is no empty list.
         let verdict = match replies.verdict() {
-            Verdict::Complete if !has_end => Verdict::Lost(Loss::Unended),
+            Verdict::Complete if end.is_none() => Verdict::Lost(Loss::Unended),
             verdict => verdict,
         };
-        let dump = Dump { messages, verdict, is_filtered: replies.is_filtered(), error };
-        self.is_passing.set(dump.is_passing());
-        Ok(dump)
+        self.is_passing.set(verdict.is_passing());
+        Ok(Dump { messages, verdict, is_filtered: replies.is_filtered(), error })
     }
 }

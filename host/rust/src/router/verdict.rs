@@ -60,6 +60,11 @@ impl Verdict {
             _ => Verdict::Lost(Loss::Datagram),
         }
     }
+
+    /// Whether the list may be complete when it is requested again.
+    pub(super) fn is_passing(self) -> bool {
+        matches!(self, Verdict::Interrupted | Verdict::Lost(Loss::Link) | Verdict::Failed(BUSY | NO_BUFFERS))
+    }
 }
 
 /// A requested list, and whether it is complete.
@@ -77,12 +82,6 @@ pub struct Dump<T, P> {
 }
 
 impl<T, P> Dump<T, P> {
-    /// Whether it may be complete when it is requested again.
-    pub(super) fn is_passing(&self) -> bool {
-        use Verdict::{Failed, Interrupted, Lost};
-        matches!(self.verdict, Interrupted | Lost(Loss::Link) | Failed(BUSY | NO_BUFFERS))
-    }
-
     /// Its messages, if it is complete, or why it is not.
     pub(super) fn into_messages(self) -> Result<Vec<Nlmsghdr<T, P>>, RouterError> {
         let why = match self.verdict {
