@@ -2,7 +2,6 @@
 
 pub mod lending;
 mod names;
-mod notice;
 mod shared;
 pub mod synchronous;
 mod verdict;

@@ -138,7 +138,7 @@ impl<L: Link + ?Sized> Shared<L> {
                 own_sent = sent;
             } else {
                 // Who waits for its answer saw the link empty before: it learns so whether nothing comes.
-                self.wake_all(&state);
+                self.wake_all(&mut state);
             }
         }
         own_sent.map(|()| (state, has_sent))
@@ -173,11 +173,7 @@ impl<L: Link + ?Sized> Shared<L> {
         if !state.keeps_unasked {
             state.session.pass_all(Reader::Unasked);
         }
-        for (reader, waiter) in &state.waiting {
-            if state.session.is_ready(*reader) {
-                self.wake(waiter);
-            }
-        }
+        self.wake(state, ffi::Session::is_ready);
         Ok(state.held.take().is_some())
     }
 
@@ -221,9 +217,11 @@ impl<L: Link + ?Sized> Shared<L> {
         };
         let next = wait_for();
         let state = self.state();
-        // Another thread watches the link from now on.
         let other = state.waiting.values().find(|it| matches!(it, Waiter::Thread(_)));
-        other.filter(|_| !state.is_watched()).into_iter().for_each(|it| self.wake(it));
+        if let (false, Some(Waiter::Thread(other))) = (state.is_watched(), other) {
+            // It watches the link from now on.
+            other.unpark();
+        }
         next
     }
 
@@ -255,15 +253,17 @@ impl<L: Link + ?Sized> Shared<L> {
     }
 
     /// Has all that wait look once more.
-    pub(super) fn wake_all(&self, state: &State) {
-        state.waiting.values().for_each(|it| self.wake(it));
+    pub(super) fn wake_all(&self, state: &mut State) {
+        self.wake(state, |_, _| true);
     }
 
-    fn wake(&self, waiter: &Waiter) {
-        match waiter {
-            Waiter::AtLink => self.link.wake(),
-            Waiter::Thread(thread) => thread.unpark(),
-            Waiter::Task(task) => task.wake_by_ref(),
+    fn wake(&self, state: &mut State, has_to: impl Fn(&mut ffi::Session, Reader) -> bool) {
+        for (_, waiter) in state.waiting.iter().filter(|(it, _)| has_to(&mut state.session, **it)) {
+            match waiter {
+                Waiter::AtLink => self.link.wake(),
+                Waiter::Thread(thread) => thread.unpark(),
+                Waiter::Task(task) => task.wake_by_ref(),
+            }
         }
     }
 }

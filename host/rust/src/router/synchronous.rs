@@ -3,9 +3,8 @@
 //! There is no thread: a read of a handle that has nothing yet receives what has arrived, for every handle. Of several
 //! threads that read at a time one waits at the socket, the others until their handles have something.
 
-pub use super::notice::{Missed, Notice};
 use super::shared::{Read, Request, Result, Shared, State};
-pub use super::verdict::{Dump, Loss, Verdict};
+pub use super::verdict::{Dump, Loss, Missed, Notice, Verdict};
 use crate::consts::nl::NlmF;
 use crate::consts::socket::NlFamily;
 use crate::err::RouterError;
@@ -24,9 +23,6 @@ use std::task::{Context, Poll};
 
 /// The handle of multicast, or of messages without a request.
 type Multicast = NlRouterReceiverHandle<u16, Buffer>;
-
-/// A message as these types, or an error in its place.
-type Reply<T, P> = Result<Nlmsghdr<T, P>>;
 
 /// A router over a link of its own, by default a socket. A clone is the same router, and handles can outlive it. What the
 /// link refuses is [`RouterError::Socket`]; a call that sends or reads may also be refused as [`RouterError::Memory`].
@@ -129,7 +125,7 @@ impl<L: Link + 'static> NlRouter<L> {
     /// Wakes each task that waits for a handle, by [`poll_next`](NlRouterReceiverHandle::poll_next), so that one of them
     /// takes in what has arrived. For a reactor, once the descriptor is readable.
     pub fn wake_tasks(&self) {
-        self.0.wake_all(&self.0.state());
+        self.0.wake_all(&mut self.0.state());
     }
 
     /// Ends every current wait at a handle, and each later one, with the system's `ECANCELED`; then the handle ends. What
@@ -215,13 +211,13 @@ impl<T, P> NlRouterReceiverHandle<T, P> {
     ///
     /// The kernel answers while a request is sent. So once the socket was seen empty no reply follows, and the verdict
     /// says whether that is an end: a change without ACK is answered by nothing.
-    pub fn next_typed<TT: NlType, PP: FromBytes>(&mut self) -> Option<Reply<TT, PP>> {
+    pub fn next_typed<TT: NlType, PP: FromBytes>(&mut self) -> Option<Result<Nlmsghdr<TT, PP>>> {
         let read = if self.is_stopped { Ok(None) } else { self.shared.next(self.reader, State::read) };
         self.typed(read)
     }
 
     /// What was read, as these types.
-    fn typed<TT: NlType, PP: FromBytes>(&mut self, read: Read) -> Option<Reply<TT, PP>> {
+    fn typed<TT: NlType, PP: FromBytes>(&mut self, read: Read) -> Option<Result<Nlmsghdr<TT, PP>>> {
         self.is_stopped |= matches!(&read, Err(RouterError::Socket(it)) if is_stop(it));
         let typed = read.transpose()?.map(|(head, payload)| Nlmsghdr::of_message(&payload, &head));
         if matches!((self.reader, &typed), (Reader::Request(_), Ok(Err(_)))) {
@@ -309,7 +305,7 @@ impl<T, P> NlRouterReceiverHandle<T, P> {
 impl<T: NlType, P: FromBytes> NlRouterReceiverHandle<T, P> {
     /// The next reply, if it has been taken in; it neither receives nor waits. Otherwise as
     /// [`next_typed`](NlRouterReceiverHandle::next_typed). For a loop of your own, after [`NlRouter::receive`].
-    pub fn try_next(&mut self) -> Poll<Option<Reply<T, P>>> {
+    pub fn try_next(&mut self) -> Poll<Option<Result<Nlmsghdr<T, P>>>> {
         let read = if self.is_stopped { Poll::Ready(Ok(None)) } else { self.shared.state().read(self.reader) };
         read.map(|it| self.typed(it))
     }
@@ -317,14 +313,14 @@ impl<T: NlType, P: FromBytes> NlRouterReceiverHandle<T, P> {
     /// The next reply, if it has been taken in or has arrived; it does not wait, but has the task of this context, one
     /// for a handle, woken once a call of the router takes something in for it. That something has arrived is for a
     /// reactor to say, by [`NlRouter::wake_tasks`]. Else as [`next_typed`](NlRouterReceiverHandle::next_typed).
-    pub fn poll_next(&mut self, context: &mut Context<'_>) -> Poll<Option<Reply<T, P>>> {
+    pub fn poll_next(&mut self, context: &mut Context<'_>) -> Poll<Option<Result<Nlmsghdr<T, P>>>> {
         let read = if self.is_stopped { Poll::Ready(Ok(None)) } else { self.shared.poll(self.reader, context.waker()) };
         read.map(|it| self.typed(it))
     }
 }
 
 impl<T: NlType, P: FromBytes> Iterator for NlRouterReceiverHandle<T, P> {
-    type Item = Reply<T, P>;
+    type Item = Result<Nlmsghdr<T, P>>;
 
     fn next(&mut self) -> Option<Self::Item> {
         self.next_typed::<T, P>()

@@ -1,12 +1,16 @@
-//! The verdict on an answer: whether it is complete.
+//! What a router says beside messages: the verdict on an answer, and what the next read of multicast is.
 
-use crate::err::RouterError;
+use super::shared::{Read, Result};
+use crate::FromBytes;
+use crate::err::{RouterError, SocketError};
 use crate::ffi;
-use crate::nl::Nlmsghdr;
+use crate::nl::{NlType, Nlmsghdr};
+use crate::socket::synchronous::is_end_of_wait;
+use crate::types::Buffer;
 
-/// The errors of the kernel after which a dump can be requested again, negated.
-const BUSY: i32 = -16;
-const NO_BUFFERS: i32 = -105;
+/// The errors of the kernel after which a dump can be requested again, and by which the socket says that it ran over.
+const EBUSY: i32 = 16;
+const ENOBUFS: i32 = 105;
 
 /// The verdict on an answer. All but [`Verdict::Pending`] are final.
 #[derive(Clone, Copy, Debug, PartialEq, Eq)]
@@ -63,7 +67,8 @@ impl Verdict {
 
     /// Whether the list may be complete when it is requested again.
     pub(super) fn is_passing(self) -> bool {
-        matches!(self, Verdict::Interrupted | Verdict::Lost(Loss::Link) | Verdict::Failed(BUSY | NO_BUFFERS))
+        let is_busy = matches!(self, Verdict::Failed(code) if [-EBUSY, -ENOBUFS].contains(&code));
+        is_busy || matches!(self, Verdict::Interrupted | Verdict::Lost(Loss::Link))
     }
 }
 
@@ -83,12 +88,50 @@ pub struct Dump<T, P> {
 
 impl<T, P> Dump<T, P> {
     /// Its messages, if it is complete, or why it is not.
-    pub(super) fn into_messages(self) -> Result<Vec<Nlmsghdr<T, P>>, RouterError> {
+    pub(super) fn into_messages(self) -> Result<Vec<Nlmsghdr<T, P>>> {
         let why = match self.verdict {
             Verdict::Complete => return Ok(self.messages),
             Verdict::Interrupted => "what was listed changed meanwhile",
             _ => "the list has no end",
         };
         Err(self.error.unwrap_or_else(|| RouterError::new(why)))
+    }
+}
+
+/// A notice from multicast.
+#[derive(Debug)]
+pub enum Notice<T, P> {
+    /// The next message.
+    Message(Nlmsghdr<T, P>),
+    /// The next message, which cannot be read as the caller's types: as it arrived, with its type's number and its
+    /// body's bytes; or why it cannot be read at all.
+    Untyped(Result<Nlmsghdr<u16, Buffer>>),
+    /// Messages were lost at this place.
+    Missed(Missed),
+}
+
+/// Why messages to groups were lost.
+#[derive(Debug)]
+pub enum Missed {
+    /// The socket's buffer ran over (`ENOBUFS`).
+    Overrun,
+    /// Another fault of the socket, or a datagram that was longer than its room.
+    Fault(SocketError),
+}
+
+impl<T: NlType, P: FromBytes> Notice<T, P> {
+    /// That of a read of multicast, if it is over.
+    pub(super) fn of_read(read: Read) -> Result<Self> {
+        match read {
+            Ok(Some((head, payload))) => Ok(match Nlmsghdr::of_message(&payload, &head) {
+                Ok(message) => Notice::Message(message),
+                Err(_) => Notice::Untyped(Nlmsghdr::of_message(&payload, &head).map_err(RouterError::De)),
+            }),
+            Ok(None) => Err(RouterError::ClosedChannel),
+            Err(error @ RouterError::De(_)) => Ok(Notice::Untyped(Err(error))),
+            Err(RouterError::Socket(it)) if it.raw_os_error() == Some(ENOBUFS) => Ok(Notice::Missed(Missed::Overrun)),
+            Err(RouterError::Socket(it)) if !is_end_of_wait(&it) => Ok(Notice::Missed(Missed::Fault(it))),
+            Err(error) => Err(error),
+        }
     }
 }
