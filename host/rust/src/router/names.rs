@@ -4,11 +4,10 @@ use super::shared::Result;
 use super::synchronous::{NlRouter, Verdict};
 use crate::consts::genl::{CtrlAttr, CtrlAttrMcastGrp, CtrlCmd};
 use crate::consts::nl::{GenlId, NlmF};
-use crate::err::{BuildError, RouterError};
-use crate::genl::{AttrTypeBuilder, GenlAttrHandle, Genlmsghdr, GenlmsghdrBuilder, NlattrBuilder};
+use crate::err::RouterError;
+use crate::genl::{AttrTypeBuilder, Genlmsghdr, GenlmsghdrBuilder, Nlattr, NlattrBuilder};
 use crate::link::Link;
 use crate::nl::NlPayload;
-use crate::types::{Buffer, GenlBuffer};
 
 type Controller = Genlmsghdr<CtrlCmd, CtrlAttr>;
 
@@ -17,8 +16,7 @@ impl<L: Link + 'static> NlRouter<L> {
     fn get_genl_family(&self, name: &str) -> Result<Vec<Controller>> {
         let kind = AttrTypeBuilder::default().nla_type(CtrlAttr::FamilyName).build()?;
         let asked = NlattrBuilder::default().nla_type(kind).nla_payload(name).build()?;
-        let body = get_family([asked].into_iter().collect())?;
-        let replies = self.send::<_, _, GenlId, Controller>(GenlId::Ctrl, NlmF::ACK, body)?;
+        let replies = self.send::<_, _, GenlId, Controller>(GenlId::Ctrl, NlmF::ACK, get_family(Some(asked))?)?;
         replies.filter_map(|it| it.map(|it| it.get_payload().cloned()).transpose()).collect()
     }
 
@@ -51,8 +49,7 @@ impl<L: Link + 'static> NlRouter<L> {
     /// Refused as [`RouterError::Msg`] if no group has it, or the list that lacks it is not complete; as
     /// [`RouterError::De`] if a family's name or its groups can't be read; and as [`NlRouter::dump`] and its replies are.
     pub fn lookup_id(&self, id: u32) -> Result<(String, String)> {
-        let all = get_family(GenlBuffer::new())?;
-        let families = self.dump::<_, _, GenlId, Controller>(GenlId::Ctrl, NlmF::empty(), all, 1)?;
+        let families = self.dump::<_, _, GenlId, Controller>(GenlId::Ctrl, NlmF::empty(), get_family(None)?, 1)?;
         for body in families.messages.iter().filter_map(|it| it.get_payload()) {
             if let Some((group, _)) = groups_of(body)?.into_iter().find(|(_, number)| *number == id) {
                 let attributes = body.attrs().get_attr_handle();
@@ -65,16 +62,17 @@ impl<L: Link + 'static> NlRouter<L> {
     }
 }
 
-fn get_family(attributes: GenlBuffer<CtrlAttr, Buffer>) -> Result<NlPayload<GenlId, Controller>, BuildError> {
-    let body = GenlmsghdrBuilder::default().cmd(CtrlCmd::Getfamily).version(2).attrs(attributes).build()?;
-    Ok(NlPayload::Payload(body))
+/// The request for the family of this name, or for all.
+fn get_family(name: Option<Nlattr<CtrlAttr>>) -> Result<NlPayload<GenlId, Controller>> {
+    let body = GenlmsghdrBuilder::default().cmd(CtrlCmd::Getfamily).version(2).attrs(name.into_iter().collect());
+    Ok(NlPayload::Payload(body.build()?))
 }
 
 /// The groups in a body of the controller.
 fn groups_of(body: &Controller) -> Result<Vec<(String, u32)>> {
     let attributes = body.attrs().get_attr_handle();
     let Some(list) = attributes.get_attribute(CtrlAttr::McastGroups) else { return Ok(Vec::new()) };
-    let groups: GenlAttrHandle<'_, u16> = list.get_attr_handle()?;
+    let groups = list.get_attr_handle::<u16>()?;
     let names = groups.iter().map(|group| {
         let fields = group.get_attr_handle::<CtrlAttrMcastGrp>()?;
         let name = fields.get_attr_payload_as_with_len(CtrlAttrMcastGrp::Name)?;

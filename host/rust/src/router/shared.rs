@@ -62,7 +62,7 @@ pub(super) struct State {
 
 /// Who waits for a reader: the thread that watches the link, another one, or a task.
 #[derive(Debug)]
-enum Waiter {
+pub(super) enum Waiter {
     AtLink,
     Thread(Thread),
     Task(Waker),
@@ -138,7 +138,7 @@ impl<L: Link + ?Sized> Shared<L> {
                 own_sent = sent;
             } else {
                 // Who waits for its answer saw the link empty before: it learns so whether nothing comes.
-                self.wake_all(&mut state);
+                self.wake(&mut state, |_, _, _| true);
             }
         }
         own_sent.map(|()| (state, has_sent))
@@ -173,7 +173,7 @@ impl<L: Link + ?Sized> Shared<L> {
         if !state.keeps_unasked {
             state.session.pass_all(Reader::Unasked);
         }
-        self.wake(state, ffi::Session::is_ready);
+        self.wake(state, |session, reader, _| session.is_ready(reader));
         Ok(state.held.take().is_some())
     }
 
@@ -215,13 +215,10 @@ impl<L: Link + ?Sized> Shared<L> {
                 (state, Poll::Pending, false) => self.wait(state, reader, wait.left()?)?,
             }
         };
-        let next = wait_for();
-        let state = self.state();
-        let other = state.waiting.values().find(|it| matches!(it, Waiter::Thread(_)));
-        if let (false, Some(Waiter::Thread(other))) = (state.is_watched(), other) {
-            // It watches the link from now on.
-            other.unpark();
-        }
+        let (next, mut state) = (wait_for(), self.state());
+        // Another thread watches the link from now on.
+        let mut lacks_one = !state.is_watched();
+        self.wake(&mut state, |_, _, it| matches!(it, Waiter::Thread(_)) && std::mem::take(&mut lacks_one));
         next
     }
 
@@ -252,13 +249,9 @@ impl<L: Link + ?Sized> Shared<L> {
         read
     }
 
-    /// Has all that wait look once more.
-    pub(super) fn wake_all(&self, state: &mut State) {
-        self.wake(state, |_, _| true);
-    }
-
-    fn wake(&self, state: &mut State, has_to: impl Fn(&mut ffi::Session, Reader) -> bool) {
-        for (_, waiter) in state.waiting.iter().filter(|(it, _)| has_to(&mut state.session, **it)) {
+    /// Wakes those of all that wait of whom this is true: they look once more.
+    pub(super) fn wake(&self, state: &mut State, mut is_one: impl FnMut(&mut ffi::Session, Reader, &Waiter) -> bool) {
+        for (_, waiter) in state.waiting.iter().filter(|(it, waiter)| is_one(&mut state.session, **it, waiter)) {
             match waiter {
                 Waiter::AtLink => self.link.wake(),
                 Waiter::Thread(thread) => thread.unpark(),

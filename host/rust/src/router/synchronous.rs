@@ -125,7 +125,7 @@ impl<L: Link + 'static> NlRouter<L> {
     /// Wakes each task that waits for a handle, by [`poll_next`](NlRouterReceiverHandle::poll_next), so that one of them
     /// takes in what has arrived. For a reactor, once the descriptor is readable.
     pub fn wake_tasks(&self) {
-        self.0.wake_all(&mut self.0.state());
+        self.0.wake(&mut self.0.state(), |_, _, _| true);
     }
 
     /// Ends every current wait at a handle, and each later one, with the system's `ECANCELED`; then the handle ends. What
