@@ -125,13 +125,12 @@ impl<L: Link + ?Sized> Shared<L> {
             drop(state);
             let sent = self.link.send(&datagram);
             state = self.state();
-            match &sent {
-                Err(SocketError::Io(error)) if error.kind() == ErrorKind::WouldBlock => break,
-                Err(error) => {
-                    let number = state.number_of(error.again());
-                    state.session.not_sent(number);
-                }
+            if matches!(&sent, Err(SocketError::Io(error)) if error.kind() == ErrorKind::WouldBlock) {
+                break;
+            }
+            match sent.as_ref().map_err(|it| state.number_of(it.again())) {
                 Ok(()) => state.session.sent(),
+                Err(number) => state.session.not_sent(number),
             }
             has_sent = true;
             if datagram == own {
@@ -177,26 +176,26 @@ impl<L: Link + ?Sized> Shared<L> {
         Ok(state.held.take().is_some())
     }
 
-    /// Takes in what has arrived, and sends what may go out then, until this is ready or nothing is left. Returns whether
-    /// more may be there too.
-    fn advance<T>(&self, mut take: impl FnMut(&mut State) -> Poll<T>) -> Result<(Locked<'_>, Poll<T>, bool)> {
+    /// Takes in what has arrived, and sends what may go out then, until this is ready or nothing is left; none where more
+    /// may be there.
+    fn advance<T>(&self, mut take: impl FnMut(&mut State) -> Poll<T>) -> Result<(Locked<'_>, Option<Poll<T>>)> {
         let (mut state, mut has_more) = (self.state(), true);
         for _ in 0..AT_ONCE {
             let taken = take(&mut state);
             if taken.is_ready() || !has_more {
-                return Ok((state, taken, has_more));
+                return Ok((state, Some(taken)));
             }
             let has_come = self.take_in(&mut state)?;
             (state, has_more) = self.flush(state, &[])?;
             has_more |= has_come;
         }
-        Ok((state, Poll::Pending, true))
+        Ok((state, None))
     }
 
     /// Takes in all that has arrived, and does this to the state after each.
     pub(super) fn receive(&self, each: impl Fn(&mut State)) -> Result<()> {
         let wait = Wait::begin(self.link.limit());
-        while self.advance(|state| (each(state), Poll::<()>::Pending).1)?.2 {
+        while self.advance(|state| (each(state), Poll::<()>::Pending).1)?.1.is_none() {
             wait.goes_on()?;
         }
         Ok(())
@@ -210,9 +209,9 @@ impl<L: Link + ?Sized> Shared<L> {
         let wait = Wait::begin(self.link.limit());
         let wait_for = || loop {
             match self.advance(|state| take(state, reader))? {
-                (_, Poll::Ready(next), _) => return next,
-                (_, Poll::Pending, true) => wait.goes_on()?,
-                (state, Poll::Pending, false) => self.wait(state, reader, wait.left()?)?,
+                (_, Some(Poll::Ready(next))) => return next,
+                (_, None) => wait.goes_on()?,
+                (state, Some(Poll::Pending)) => self.wait(state, reader, wait.left()?)?,
             }
         };
         let (next, mut state) = (wait_for(), self.state());
@@ -238,15 +237,13 @@ impl<L: Link + ?Sized> Shared<L> {
 
     /// What a reader reads; it does not wait, but where nothing is there has the task woken once something may be.
     pub(super) fn poll(&self, reader: Reader, task: &Waker) -> Poll<Read> {
-        let (mut state, read, has_more) = self.advance(|state| state.read(reader))?;
-        if read.is_ready() {
-            state.waiting.remove(&reader);
-        } else if has_more {
-            task.wake_by_ref();
-        } else {
-            state.waiting.insert(reader, Waiter::Task(task.clone()));
+        let (mut state, read) = self.advance(|state| state.read(reader))?;
+        match read {
+            Some(Poll::Ready(_)) => drop(state.waiting.remove(&reader)),
+            Some(Poll::Pending) => drop(state.waiting.insert(reader, Waiter::Task(task.clone()))),
+            None => task.wake_by_ref(),
         }
-        read
+        read.unwrap_or(Poll::Pending)
     }
 
     /// Wakes those of all that wait of whom this is true: they look once more.

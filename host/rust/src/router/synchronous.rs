@@ -220,9 +220,8 @@ impl<T, P> NlRouterReceiverHandle<T, P> {
     fn typed<TT: NlType, PP: FromBytes>(&mut self, read: Read) -> Option<Result<Nlmsghdr<TT, PP>>> {
         self.is_stopped |= matches!(&read, Err(RouterError::Socket(it)) if is_stop(it));
         let typed = read.transpose()?.map(|(head, payload)| Nlmsghdr::of_message(&payload, &head));
-        if matches!((self.reader, &typed), (Reader::Request(_), Ok(Err(_)))) {
-            let marked = Some(self.verdict()).filter(|it| *it == Verdict::Interrupted);
-            self.spoilt = marked.or(Some(Verdict::Lost(Loss::Unreadable)));
+        if matches!((self.reader, &typed), (Reader::Request(_), Ok(Err(_)))) && self.verdict() != Verdict::Interrupted {
+            self.spoilt = Some(Verdict::Lost(Loss::Unreadable));
         }
         Some(typed.and_then(|it| Ok(it?)))
     }

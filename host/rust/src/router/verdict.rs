@@ -8,7 +8,7 @@ use crate::nl::{NlType, Nlmsghdr};
 use crate::socket::synchronous::is_end_of_wait;
 use crate::types::Buffer;
 
-/// The errors of the kernel after which a dump can be requested again, and by which the socket says that it ran over.
+/// The errors of the kernel after which a dump can be requested again; by the second a socket also says that it ran over.
 const EBUSY: i32 = 16;
 const ENOBUFS: i32 = 105;
 
