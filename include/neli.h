@@ -51,7 +51,7 @@ enum neli_code {
     NELI_KERNEL_ERROR = 3,    /* the kernel answered with an error: its code is in the item */
     NELI_INTERRUPTED = 4,     /* of a verdict: the listed objects changed meanwhile; request them again */
     NELI_OVERRUN = 5,         /* of listening: the socket's buffer ran over (ENOBUFS), so messages may be lost */
-    NELI_VIOLATION = 6,       /* of a check: an attribute is not as its row says */
+    NELI_VIOLATION = 6,       /* an attribute is not as its row says, or JSON asks for what the tables do not have */
     NELI_SHORT = -1,          /* the bytes end before the header, the padding or the number does */
     NELI_LENGTH = -2,         /* a length does not fit: below its header, past the bytes, or past its field */
     NELI_MEMORY = -3,         /* memory ran out; everything is unchanged, unless the call says otherwise */
@@ -95,6 +95,12 @@ struct neli_message {
 /* The flags of an attribute's type field. */
 #define NELI_NESTED 0x8000
 #define NELI_NETWORK_ORDER 0x4000
+
+/* A parser of the kernel, by which it reads a request (lib/nlattr.c). */
+enum neli_validation {
+    NELI_LIBERAL = 0, /* that of older messages */
+    NELI_STRICT = 1   /* refuses unknown attributes, numbers of another length, nests without a flag, and a rest too */
+};
 
 /* An attribute: its header, and the place of its payload. `type` is `number` and `flags` in one. */
 struct neli_attribute {
@@ -423,11 +429,18 @@ int32_t neli_c_message_name(struct neli_tables *tables, uint16_t protocol, const
 int32_t neli_c_errno_name(int32_t error, uint8_t *out, size_t room, size_t *text_length);
 int32_t neli_c_check(struct neli_tables *tables, uint16_t protocol, const uint8_t *bytes, size_t length,
                      const struct neli_message *message, uint8_t *out, size_t room, size_t *size);
+int32_t neli_c_check_as(struct neli_tables *tables, int32_t validation, uint16_t protocol, const uint8_t *bytes,
+                        size_t length, const struct neli_message *message, uint8_t *out, size_t room, size_t *size);
 int32_t neli_c_path_at(struct neli_tables *tables, uint16_t protocol, const uint8_t *bytes, size_t length,
                        const struct neli_message *message, size_t offset, uint8_t *out, size_t room, size_t *size);
 int32_t neli_c_refusal_text(struct neli_tables *tables, uint16_t protocol, const uint8_t *bytes, size_t length,
                             const struct neli_message *message, int32_t code, const uint8_t *text, size_t text_length,
                             size_t offset, uint8_t *out, size_t room, size_t *size);
+int32_t neli_c_diagnosis(struct neli_tables *tables, uint16_t protocol, const uint8_t *bytes, size_t length,
+                         const struct neli_message *message, int32_t code, const uint8_t *ext_ack,
+                         size_t ext_ack_length, uint8_t *out, size_t room, size_t *size);
+int32_t neli_c_write_json(struct neli_tables *tables, uint16_t protocol, const uint8_t *json, size_t json_length,
+                          uint8_t *out, size_t room, size_t *size);
 
 /* ---- Pointers and lengths ---- */
 
@@ -1184,9 +1197,9 @@ static inline int32_t neli_kernel_dump_next(struct neli_kernel_dump *dump, uint8
 /* ---- Messages by name ---- */
 
 /* What attributes are called and what their payloads are stands in tables of families: docs/TABLES.md. All but the
- * first three calls return NELI_STATE if the tables are closed. Those that open tables, add or learn return NELI_MEMORY
- * if memory runs out, which leaves them unchanged; printing takes none. NELI_LENGTH if a text has more bytes than a
- * size_t counts: `size`, and the `count` of items, are as they were then. */
+ * first three calls return NELI_STATE if the tables are closed. Those that open tables, add or learn, and the one that
+ * writes a message from JSON, return NELI_MEMORY if memory runs out, which leaves all unchanged; printing takes none.
+ * NELI_LENGTH if a text has more bytes than a size_t counts: `size`, and the `count` of items, are as they were then. */
 
 /* Opens tables without any family; NELI_STATE if they are open, and they stay so. */
 static inline int32_t neli_tables_new(struct neli_tables *tables) {
@@ -1368,6 +1381,16 @@ static inline int32_t neli_check(struct neli_tables *tables, uint16_t protocol, 
                         size);
 }
 
+/* The same by the parser that `validation` names, whatever the table says. NELI_KIND if it names none. */
+static inline int32_t neli_check_as(struct neli_tables *tables, enum neli_validation validation, uint16_t protocol,
+                                    const uint8_t *bytes, size_t length, const struct neli_message *message,
+                                    char *out, size_t room, size_t *size) {
+    if (tables == NULL || !neli_is_slice(bytes, length) || message == NULL) return NELI_NULL;
+    if (!neli_is_slice(out, room) || size == NULL) return NELI_NULL;
+    return neli_c_check_as(tables, (int32_t)validation, protocol, neli_read_at(bytes), length, message,
+                           neli_write_at((uint8_t *)out), room, size);
+}
+
 /* Prints the path to the attribute that contains an offset, counted from the message's first byte, as that of an
  * extended acknowledgement (NELI_ANSWER_OFFSET): NELI_ITEM, or NELI_END where the tables know no attribute there.
  * NELI_PLACE if the payload is past the bytes.
@@ -1397,6 +1420,36 @@ static inline int32_t neli_refusal_text(struct neli_tables *tables, uint16_t pro
     return neli_c_refusal_text(tables, protocol, neli_read_at(bytes), length, message, code,
                                neli_read_at((const uint8_t *)text), text_length, offset,
                                neli_write_at((uint8_t *)out), room, size);
+}
+
+/* Prints a refusal of the kernel in a line by the attributes of its acknowledgement, which are the bytes that
+ * `attributes` of a `struct neli_answer` leads over: as neli_refusal_text, and behind the path the value as it was
+ * sent, what the kernel's policy allows, and the name of an attribute that is missing, as `ERANGE: Numerical result out
+ * of range: integer out of range: IFLA_GSO_MAX_SIZE = 1, allowed 193..4294967295`. What the kernel does not say is left
+ * out. */
+static inline int32_t neli_diagnosis(struct neli_tables *tables, uint16_t protocol, const uint8_t *bytes,
+                                     size_t length, const struct neli_message *message, int32_t code,
+                                     const void *ext_ack, size_t ext_ack_length, char *out, size_t room,
+                                     size_t *size) {
+    if (tables == NULL || !neli_is_slice(bytes, length) || message == NULL) return NELI_NULL;
+    if (!neli_is_slice(ext_ack, ext_ack_length) || !neli_is_slice(out, room) || size == NULL) return NELI_NULL;
+    return neli_c_diagnosis(tables, protocol, neli_read_at(bytes), length, message, code,
+                            neli_read_at((const uint8_t *)ext_ack), ext_ack_length, neli_write_at((uint8_t *)out),
+                            room, size);
+}
+
+/* Writes the message that an object of JSON is, of the form that docs/WRITING.md states, with header, payload and
+ * padding: NELI_OK, and `size` is how many bytes it has. The tables read what is written as a message of the object's
+ * name that has what was asked for, and nothing else. NELI_VIOLATION if it is refused: `out` has why, as `IFLA_MTUU: no
+ * such name, the nearest is IFLA_MTU` or `no JSON at line 1, column 9`, or the beginning of that, and `size` is how
+ * long the whole is. NELI_ROOM if the message does not fit: `size` is how many bytes it has, and `out` is as it was.
+ * NELI_LENGTH if its length passes 32 bits. */
+static inline int32_t neli_write_json(struct neli_tables *tables, uint16_t protocol, const void *json,
+                                      size_t json_length, uint8_t *out, size_t room, size_t *size) {
+    if (tables == NULL || !neli_is_slice(json, json_length) || !neli_is_slice(out, room) || size == NULL)
+        return NELI_NULL;
+    return neli_c_write_json(tables, protocol, neli_read_at((const uint8_t *)json), json_length, neli_write_at(out),
+                             room, size);
 }
 
 #ifdef __cplusplus

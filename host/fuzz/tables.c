@@ -106,6 +106,12 @@ static int32_t refusal_text(struct neli_tables *tables, uint16_t protocol, const
                              length % 40, message.port % 128, to, room, size);
 }
 
+static int32_t diagnosis(struct neli_tables *tables, uint16_t protocol, const uint8_t *bytes, size_t length, char *to,
+                         size_t room, size_t *size) {
+    return neli_diagnosis(tables, protocol, bytes, length, &message, -(int32_t)(message.number % 200),
+                          bytes + message.payload, message.payload_length, to, room, size);
+}
+
 /* ---- A message */
 
 /* The items of a message, each in the message, and their texts one behind the other. In the message's own list each is
@@ -165,15 +171,37 @@ static void try_name(struct neli_tables *tables, uint16_t protocol, const uint8_
     WANT(code == NELI_ITEM || code == NELI_END);
 }
 
+/* What is written from a text is one message, or why it is none; without room for all of it nothing is. */
+static void try_json(struct neli_tables *tables, uint16_t protocol, const void *json, size_t length) {
+    size_t size = 0, again = 0;
+    struct neli_message one;
+    int32_t code = neli_write_json(tables, protocol, json, length, out, ROOM, &size);
+    WANT(code == NELI_OK || code == NELI_ROOM || (code == NELI_VIOLATION && size > 0));
+    if (code != NELI_OK) return;
+    struct neli_walk walk = {0, size};
+    WANT(neli_next_message(out, size, &walk, &one) == NELI_ITEM && walk.place == size);
+    memset(out, 0xaa, ROOM);
+    WANT(neli_write_json(tables, protocol, json, length, out, size - 1, &again) == NELI_ROOM && again == size);
+    for (size_t i = 0; i < size; i++) WANT(out[i] == 0xaa);
+}
+
 static void try_message(struct neli_tables *tables, uint16_t protocol, const uint8_t *bytes, size_t length) {
     struct printed json = printed_by(message_json, tables, protocol, bytes, length, message.number);
     if (json.size <= ROOM) want_json(json.at, json.size);
+    if (json.size <= ROOM) try_json(tables, protocol, json.at, json.size);
+    try_json(tables, protocol, bytes + message.payload, message.payload_length);
     printed_by(message_text, tables, protocol, bytes, length, message.port);
     printed_by(refusal_text, tables, protocol, bytes, length, message.number);
+    printed_by(diagnosis, tables, protocol, bytes, length, message.port);
     try_items(tables, protocol, bytes, length);
     size_t size = 0;
     int32_t code = neli_check(tables, protocol, bytes, length, &message, (char *)out, ROOM, &size);
     WANT(code == NELI_OK || (code == NELI_VIOLATION && size > 2));
+    for (int parser = NELI_LIBERAL; parser <= NELI_STRICT; parser++) {
+        code = neli_check_as(tables, (enum neli_validation)parser, protocol, bytes, length, &message, (char *)out, ROOM,
+                             &size);
+        WANT(code == NELI_OK || (code == NELI_VIOLATION && size > 2));
+    }
     code = neli_path_at(tables, protocol, bytes, length, &message, message.port % 256, (char *)out, ROOM, &size);
     WANT(code == NELI_END || (code == NELI_ITEM && size > 0));
     try_name(tables, protocol, bytes, length);

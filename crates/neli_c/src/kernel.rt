@@ -13,12 +13,12 @@ ghost use Rattle.neli_kernel.specs.declared.request.Request.{Request as Asked};
 
 use crate::lent::neli_c_next_message;
 use neli_attr::Buffer;
-use neli_c_parts::asking::{NeliRequest, asked_by, give, request_of};
+use neli_c_parts::asking::{NeliRequest, asked_by, give, notify, request_of};
 use neli_c_parts::bytes::payload_of;
 use neli_c_parts::code::{ITEM, MEMORY, PLACE};
 use neli_c_parts::message::{NeliWalk, code_of};
 use neli_consts::NlmF;
-use neli_kernel::{notification, read_ext_ack};
+use neli_kernel::read_ext_ack;
 use neli_wire::Constant;
 use std::alloc::Global;
 
@@ -162,9 +162,5 @@ pub extern "C" fn neli_c_kernel_notification(
     ensures { WritesAnswer result (notification_wire nl_type flags number port body.now) out.old
         out.new size.old size.new }
 {
-    let Ok(body) = Buffer::from_slice(alloc, body) else {
-        return MEMORY;
-    };
-    let made = notification(alloc, nl_type, NlmF::from_wire(flags), number, port, body);
-    give(made, out, size)
+    notify(alloc, nl_type, flags, number, port, body, out, size)
 }

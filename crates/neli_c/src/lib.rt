@@ -3,7 +3,7 @@
 //! - [`lent`] walks over messages and attributes in the caller's bytes, [`several`] stores many of them in one call,
 //!   and [`number`] reads numbers and texts of a payload.
 //! - [`lists`] finds lists of attributes and looks attributes up, and [`answer`] reads errors and acknowledgements.
-//! - [`write`] writes messages, attributes and nests into the caller's bytes.
+//! - [`write`] writes messages, attributes and nests into the caller's bytes, and [`json`] messages that JSON asks for.
 //! - [`router`] has a router behind a struct that the library alone looks into.
 //! - [`session`] has a session behind such a struct.
 //! - [`kept`] says whether a list that a program keeps is current.
@@ -20,6 +20,7 @@
 pub mod answer;
 pub mod dump;
 pub mod expecting;
+pub mod json;
 pub mod kept;
 pub mod kernel;
 mod lending;

@@ -9,14 +9,16 @@
 ghost use Rattle.std.specs.Prelude.{◌≡◌, ◌≢◌, IfSome, None};
 ghost use Rattle.neli_c_parts.specs.AnswersShown.{payload_view};
 ghost use Rattle.neli_c_parts.specs.Codes.{item, ok, room, state, violation};
-ghost use Rattle.neli_c_parts.specs.Named.{Checks, Explains, FindsPath, GivesItems};
+ghost use Rattle.neli_c_parts.specs.Diagnosed.{Diagnoses};
+ghost use Rattle.neli_c_parts.specs.Named.{Checks, ChecksAs, Explains, FindsPath, GivesItems, validation_at};
 ghost use Rattle.neli_c_parts.specs.NamedFields.{GivesField};
 
 use neli_c_parts::code::STATE;
+use neli_c_parts::diagnosing::diagnosis;
 use neli_c_parts::message::NeliMessage;
 use neli_c_parts::named::NeliNamed;
 use neli_c_parts::named_fields::message_field;
-use neli_c_parts::naming::{check_message, message_items, path_at, refusal_text};
+use neli_c_parts::naming::{check_message, check_message_as, message_items, path_at, refusal_text};
 use neli_c_parts::tables_opaque::NeliTables;
 use std::alloc::Global;
 
@@ -118,6 +120,35 @@ pub extern "C" fn neli_c_check(
     code
 }
 
+/// Checks a message as the parser with this number of `enum neli_validation` does, whatever its table says.
+///
+/// Returns what `neli_c_check` returns; `KIND` if there is no such parser.
+#[unsafe(no_mangle)]
+pub extern "C" fn neli_c_check_as(
+    alloc: Global,
+    tables: &mut NeliTables,
+    validation: i32,
+    protocol: u16,
+    bytes: &[u8],
+    message: &NeliMessage,
+    out: &mut [u8],
+    size: &mut usize,
+) -> i32
+    ensures closed { tables.old.place.value ≡ None
+        → (result ≡ state) × (out.new ≡ out.old) }
+    ensures open { IfSome tables.old.place.value (λ s. ChecksAs result (validation_at validation)
+        protocol message.now (payload_view bytes.now message.now) s out.old out.new size.new) }
+    ensures unprinted { result ≢ violation → size.new ≡ size.old }
+    ensures same { tables.new.place.value ≡ tables.old.place.value }
+{
+    let Some(families) = tables.take(alloc) else {
+        return STATE;
+    };
+    let code = check_message_as(&families, validation, protocol, bytes, message, out, size);
+    tables.put(families);
+    code
+}
+
 /// Prints the path to the attribute that contains an offset, counted from the message's first byte, as that of an
 /// extended acknowledgement (`NLMSGERR_ATTR_OFFS`).
 ///
@@ -178,6 +209,40 @@ pub extern "C" fn neli_c_refusal_text(
     };
     let code = refusal_text(
         &families, protocol, bytes, message, error, text, offset, out, size,
+    );
+    tables.put(families);
+    code
+}
+
+/// Prints why the kernel refused a request, which is this message, in a line: the name and the meaning of its number, and
+/// what the attributes of its acknowledgement say, which `ext_ack` lists: its text, the path to the attribute that it is
+/// about, the value of that as it was sent, what the policy allows, and an attribute that is missing.
+///
+/// Returns `OK`; `ROOM` if the line is longer than `out`, which then has its beginning.
+#[unsafe(no_mangle)]
+pub extern "C" fn neli_c_diagnosis(
+    alloc: Global,
+    tables: &mut NeliTables,
+    protocol: u16,
+    bytes: &[u8],
+    message: &NeliMessage,
+    error: i32,
+    ext_ack: &[u8],
+    out: &mut [u8],
+    size: &mut usize,
+) -> i32
+    ensures closed { tables.old.place.value ≡ None
+        → (result ≡ state) × (out.new ≡ out.old) }
+    ensures open { IfSome tables.old.place.value (λ s. Diagnoses result protocol message.now
+        (payload_view bytes.now message.now) error ext_ack.now s out.old out.new size.old
+        size.new) }
+    ensures same { tables.new.place.value ≡ tables.old.place.value }
+{
+    let Some(families) = tables.take(alloc) else {
+        return STATE;
+    };
+    let code = diagnosis(
+        &families, protocol, bytes, message, error, ext_ack, out, size,
     );
     tables.put(families);
     code

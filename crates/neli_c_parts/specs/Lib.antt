@@ -2,8 +2,10 @@ pub mod Ahead
 pub mod AnswersShown
 pub mod Asked
 pub mod Codes
+pub mod Diagnosed
 pub mod DumpsHeld
 pub mod Expecting
+pub mod JsonWritten
 pub mod Lending
 pub mod Listens
 pub mod Lookups

@@ -1,6 +1,6 @@
 -- What is found in a message by name.
 use Rattle.std.specs.Prelude.{◌≡◌, ◌≢◌, ℕ, ◌+◌, ◌-◌, ◌^◌, ℤ, ◌&&◌, nat_le, if◌then◌else◌, min}
-use Rattle.std.specs.Prelude.{unsigned_abs, List, [], ◌∷◌, length, Option, Some, None}
+use Rattle.std.specs.Prelude.{pos, zero, suc, unsigned_abs, List, [], ◌∷◌, length, Option, Some, None}
 use Rattle.std.specs.Option.{option_map}
 use Rattle.neli_tables_walk.specs.declared.generic.GenericHeader.{GenericHeader}
 use Rattle.neli_tables_walk.specs.Bodies.{BodySeen, body_context, body_in, body_shape}
@@ -8,7 +8,9 @@ use Rattle.neli_tables_check.specs.declared.place.Place.{Place}
 use Rattle.neli_tables_check.specs.Offsets.{found_at}
 use Rattle.neli_tables_check.specs.Paths.{path_text}
 use Rattle.neli_tables_check.specs.Refusals.{refusal_text}
-use Rattle.neli_tables_check.specs.Violations.{Where, violation_in, violation_text}
+use Rattle.neli_tables_check.specs.declared.validation.Validation.{Validation}
+use Rattle.neli_tables_check.specs.declared.validation.Validation.TheVariants.{Liberal, Strict}
+use Rattle.neli_tables_check.specs.Violations.{Where, violation_by, violation_in, violation_text}
 use Rattle.neli_tables_walk.specs.declared.item.Step.{Step}
 use Rattle.neli_tables_walk.specs.declared.shape.Nest.{Nest as NestOf}
 use Rattle.neli_tables_walk.specs.declared.shape.Shape.{Shape}
@@ -90,11 +92,30 @@ PrintsWrong code None (Some (path, wrong)) old new size = ⊥
 PrintsWrong code (Some table) (Some (path, wrong)) old new size =
     (code ≡ violation) × IsWritten (violation_text table path wrong) old new size
 
-abbrev pub Checks : ℤ → ℕ → NeliMessage → Option (List ℕ) → Families → List ℕ → List ℕ → ℕ → Type 0
-Checks code protocol m None s old new size = (code ≡ place) × (new ≡ old)
-Checks code protocol m (Some payload) s old new size =
+-- the same of a message's body, by what is wrong with it
+abbrev pub ChecksBy : ℤ → (BodySeen → Option Where) → ℕ → NeliMessage → Option (List ℕ) → Families → List ℕ → List ℕ
+    → ℕ → Type 0
+ChecksBy code wrong_in protocol m None s old new size = (code ≡ place) × (new ≡ old)
+ChecksBy code wrong_in protocol m (Some payload) s old new size =
     code ≢ bad_length → PrintsWrong code (body_in s.tables (head_of protocol m) payload).0
-    (violation_in (body_in s.tables (head_of protocol m) payload)) old new size
+    (wrong_in (body_in s.tables (head_of protocol m) payload)) old new size
+
+-- what the parser refuses that the message's line states
+abbrev pub Checks : ℤ → ℕ → NeliMessage → Option (List ℕ) → Families → List ℕ → List ℕ → ℕ → Type 0
+Checks code protocol m payload s old new size = ChecksBy code violation_in protocol m payload s old new size
+
+-- the parser with this number
+abbrev pub validation_at : ℤ → Option Validation
+validation_at (pos zero) = Some Liberal
+validation_at (pos (suc zero)) = Some Strict
+validation_at number = None
+
+-- what this parser refuses, if there is one
+abbrev pub ChecksAs : ℤ → Option Validation → ℕ → NeliMessage → Option (List ℕ) → Families → List ℕ → List ℕ → ℕ
+    → Type 0
+ChecksAs code None protocol m payload s old new size = (code ≡ kind) × (new ≡ old)
+ChecksAs code (Some v) protocol m payload s old new size =
+    ChecksBy code (violation_by v) protocol m payload s old new size
 
 -- ---- offsets
 

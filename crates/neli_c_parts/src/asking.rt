@@ -1,7 +1,7 @@
 //! A request as C has it, and messages in answer to it as bytes.
 
 ghost use Rattle.std.specs.Prelude.{◌≡◌, ◌≢◌, IfErr, IfOk, Ok};
-ghost use Rattle.neli_c_parts.specs.Asked.{IsAsked, SaysWants};
+ghost use Rattle.neli_c_parts.specs.Asked.{IsAsked, SaysWants, WritesAnswer, notification_wire};
 ghost use Rattle.neli_c_parts.specs.Asked.{byte_of, ser_code};
 ghost use Rattle.neli_c_parts.specs.Codes.{ok};
 ghost use Rattle.neli_c_parts.specs.Writes.{WritesMessage};
@@ -10,10 +10,12 @@ ghost use Rattle.neli_c_parts.specs.Walks.{header_view};
 use crate::bytes::copy;
 use crate::code::{LENGTH, MEMORY};
 use crate::message::NeliMessage;
+use neli_attr::Buffer;
 use neli_consts::NlmF;
-use neli_kernel::Request;
+use neli_kernel::{Request, notification};
 use neli_reader::{NlmsghdrAck, NlmsghdrAckBuilder};
 use neli_wire::{Constant, SerError};
+use std::alloc::Global;
 
 /// A request: the message, the port of the socket that sent it, and what its header asks for, each 1 or 0.
 #[repr(C)]
@@ -99,4 +101,25 @@ pub fn give(made: Result<Vec<u8>, SerError>, out: &mut [u8], size: &mut usize) -
         Ok(bytes) => copy(&bytes, out, size),
         Err(error) => of_ser(&error),
     }
+}
+
+/// Writes a message of this type, with these flags, this number, this port and this body, where there is room for all.
+pub fn notify(
+    alloc: Global,
+    nl_type: u16,
+    flags: u16,
+    number: u32,
+    port: u32,
+    body: &[u8],
+    out: &mut [u8],
+    size: &mut usize,
+) -> i32
+    ensures { WritesAnswer result (notification_wire nl_type flags number port body.now) out.old
+        out.new size.old size.new }
+{
+    let Ok(body) = Buffer::from_slice(alloc, body) else {
+        return MEMORY;
+    };
+    let made = notification(alloc, nl_type, NlmF::from_wire(flags), number, port, body);
+    give(made, out, size)
 }

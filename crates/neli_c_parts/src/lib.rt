@@ -10,6 +10,7 @@
 //! - [`expecting`] is how a request is answered.
 //! - [`families`] are tables: [`tables_place`] and [`tables_opaque`] are how C holds them. [`tabling`] adds to them,
 //!   [`printing`] prints messages by them, and [`naming`] finds attributes by name and what is wrong with them.
+//! - [`writing`] writes messages that JSON asks for, and [`diagnosing`] says why the kernel refused one.
 //! - [`lookups`] finds numbers by their names and names by their numbers, and adds one table that is built in.
 //! - [`named`] has the items of a walk by name, [`named_fields`] the fields of the structure before them, and [`room`] writes a text into bytes that may be too few for it.
 //! - [`laws`] has what follows from the contracts.
@@ -20,6 +21,7 @@ pub mod answering;
 pub mod asking;
 pub mod bytes;
 pub mod code;
+pub mod diagnosing;
 pub mod dump_opaque;
 pub mod dump_place;
 pub mod dumping;
@@ -42,3 +44,4 @@ pub mod session;
 pub mod tables_opaque;
 pub mod tables_place;
 pub mod tabling;
+pub mod writing;

@@ -4,10 +4,12 @@ ghost use Rattle.std.specs.Prelude.{◌≡◌, ◌≢◌, ◌&&◌, IfOk, OnErr,
 ghost use Rattle.std.specs.Option.{option_map};
 ghost use Rattle.neli_tables_walk.specs.Bodies.{body_in, body_shape, body_view};
 ghost use Rattle.neli_tables_walk.specs.Shapes.{context_view};
+ghost use Rattle.neli_tables_check.specs.Violations.{violation_by};
 ghost use Rattle.neli_c_parts.specs.AnswersShown.{payload_view};
 ghost use Rattle.neli_c_parts.specs.Codes.{bad_length, item, ok, room, violation};
-ghost use Rattle.neli_c_parts.specs.Named.{Checks, Explains, FindsPath, GivesItems, StoresIn, StoresItems, at_in};
-ghost use Rattle.neli_c_parts.specs.Named.{body_place, list_in, place_view, said, unlisted_code};
+ghost use Rattle.neli_c_parts.specs.Named.{Checks, ChecksAs, Explains, FindsPath, GivesItems, PrintsWrong, StoresIn};
+ghost use Rattle.neli_c_parts.specs.Named.{StoresItems, at_in, body_place, list_in, place_view, said, unlisted_code};
+ghost use Rattle.neli_c_parts.specs.Named.{validation_at};
 ghost use Rattle.neli_c_parts.specs.NamedItems.{named_items, named_text};
 ghost use Rattle.neli_c_parts.specs.Tables.{head_of};
 
@@ -19,8 +21,13 @@ use crate::named::{NeliNamed, Stored, named_items};
 use crate::printing::print;
 use crate::room::TooLong;
 use crate::tabling::head_of;
-use neli_tables_check::{Place, Refusal, Violation, check, find};
+use neli_tables_check::{Place, Refusal, Validation, Violation, check_as, find, validation_of};
 use neli_tables_walk::{Body, Context, GENERIC_HEADER_SIZE, Nest, Shape, body_of};
+
+/// The kernel's two parsers (`enum neli_validation` of include/neli.h).
+pub const LIBERAL: i32 = 0;
+
+pub const STRICT: i32 = 1;
 
 /// The body of a message, where its payload lies within the bytes.
 pub fn body_in<'b, 'w>(
@@ -162,6 +169,33 @@ pub fn message_items(
     }
 }
 
+/// Checks a body's attributes as a parser does, and prints the first violation.
+fn check_body(
+    body: &Body<'_, '_, 'static>,
+    validation: Validation,
+    out: &mut [u8],
+    size: &mut usize,
+) -> i32
+    ensures checked { result ≢ bad_length → PrintsWrong result (body_view body.now).0
+        (violation_by validation (body_view body.now)) out.old out.new size.new }
+    ensures unprinted { result ≢ violation → size.new ≡ size.old }
+{
+    let Some(table) = body.table else {
+        return OK;
+    };
+    match check_as(body, validation) {
+        Ok(()) => OK,
+        Err(Violation { place, wrong }) => {
+            let place = Place {
+                table,
+                path: place.path,
+            };
+            let code = print(Violation { place, wrong }, out, size);
+            if code == LENGTH { LENGTH } else { VIOLATION }
+        }
+    }
+}
+
 /// Checks a message's attributes by their rows, and prints the first violation.
 pub fn check_message(
     families: &Families,
@@ -175,22 +209,43 @@ pub fn check_message(
         families.now out.old out.new size.new }
     ensures unprinted { result ≢ violation → size.new ≡ size.old }
 {
-    let Some(body) = body_in(families, protocol, bytes, message) else {
-        return PLACE;
+    match body_in(families, protocol, bytes, message) {
+        Some(body) => check_body(&body, validation_of(&body), out, size),
+        None => PLACE,
+    }
+}
+
+/// The parser with this number.
+fn validation_at(number: i32) -> Option<Validation>
+    ensures { result ≡ validation_at number }
+{
+    match number {
+        LIBERAL => Some(Validation::Liberal),
+        STRICT => Some(Validation::Strict),
+        _ => None,
+    }
+}
+
+/// Checks a message's attributes as the parser with this number does, and prints the first violation.
+pub fn check_message_as(
+    families: &Families,
+    validation: i32,
+    protocol: u16,
+    bytes: &[u8],
+    message: &NeliMessage,
+    out: &mut [u8],
+    size: &mut usize,
+) -> i32
+    ensures checked { ChecksAs result (validation_at validation) protocol message.now
+        (payload_view bytes.now message.now) families.now out.old out.new size.new }
+    ensures unprinted { result ≢ violation → size.new ≡ size.old }
+{
+    let Some(validation) = validation_at(validation) else {
+        return KIND;
     };
-    let Some(table) = body.table else {
-        return OK;
-    };
-    match check(&body) {
-        Ok(()) => OK,
-        Err(Violation { place, wrong }) => {
-            let place = Place {
-                table,
-                path: place.path,
-            };
-            let code = print(Violation { place, wrong }, out, size);
-            if code == LENGTH { LENGTH } else { VIOLATION }
-        }
+    match body_in(families, protocol, bytes, message) {
+        Some(body) => check_body(&body, validation, out, size),
+        None => PLACE,
     }
 }
 

@@ -4,8 +4,10 @@
 //! `include/neli.h`.
 //!
 //! - [`names`]: numbers by their names and names by their numbers.
+//! - [`written`]: messages that JSON asks for.
 
 mod names;
+mod written;
 
 use neli_c_parts::code::{HANDLE, ITEM, OK, WAITS};
 use neli_c_parts::lending::NeliLent;
