@@ -236,6 +236,14 @@ const char *neli_host_text(const struct neli_host *host, const struct neli_attri
 void neli_host_explain(const struct neli_host *host, int32_t code, const struct neli_message *message, char *text,
                        size_t room);
 
+/* Writes the same in a line by the names of tables: after NELI_KERNEL_ERROR what neli_diagnosis prints of the request
+ * that the error echoes, as `ERANGE: Numerical result out of range: integer out of range: IFLA_GSO_MAX_SIZE = 1,
+ * allowed 193..4294967295`. An error that ends a dump, or comes to a socket with NETLINK_CAP_ACK, echoes no body: then
+ * it names no attribute. If the tables are null or closed, and after another code, it writes what neli_host_explain
+ * does. */
+void neli_host_refusal(const struct neli_host *host, struct neli_tables *tables, int32_t code,
+                       const struct neli_message *message, char *text, size_t room);
+
 /* ---- Datagrams, for a program that routes nothing ---- */
 
 /* Waits for a datagram of the kernel, which `neli_host_datagram` then returns; its bytes stay until the next call that

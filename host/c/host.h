@@ -8,6 +8,7 @@
 struct neli_host {
     struct link link;
     struct neli_session session;
+    uint16_t protocol; /* the netlink family */
     struct neli_received held; /* what is to be handed in to the session of the datagram in the link's room */
     int due;                   /* a fault of the link that is to be handed in, or 0 */
     int faults;                /* how many the link had in a row; `link.fault` is why NELI_LINK */

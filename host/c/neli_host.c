@@ -6,24 +6,24 @@
 #include <stdlib.h>
 #include <string.h>
 
-/* Makes a host that is closed, if it may have what it is opened with. */
-static int32_t make(struct neli_host **host, bool may) {
+/* Makes a host of a family that is closed, if it may have what it is opened with. */
+static int32_t make(struct neli_host **host, int family, bool may) {
     if (host == NULL) return NELI_NULL;
     *host = may ? malloc(sizeof **host) : NULL;
     if (*host == NULL) return may ? NELI_MEMORY : NELI_NULL;
-    **host = (struct neli_host){.session = NELI_SESSION_CLOSED};
+    **host = (struct neli_host){.session = NELI_SESSION_CLOSED, .protocol = (uint16_t)family};
     return NELI_OK;
 }
 
 int32_t neli_host_open(struct neli_host **host, int family, const uint32_t *groups, size_t count) {
-    int32_t code = make(host, count <= PTRDIFF_MAX / sizeof *groups && neli_is_slice(groups, count));
+    int32_t code = make(host, family, count <= PTRDIFF_MAX / sizeof *groups && neli_is_slice(groups, count));
     if (code == NELI_OK) code = link_open(&(*host)->link, family, groups, count);
     return code == NELI_OK ? neli_session_new(&(*host)->session, family, (*host)->link.port, true) : code;
 }
 
 int32_t neli_host_open_over(struct neli_host **host, int family, uint32_t port, const struct neli_transport *over) {
     bool is_whole = over != NULL && over->send != NULL && over->receive != NULL && over->wait != NULL;
-    int32_t code = make(host, is_whole);
+    int32_t code = make(host, family, is_whole);
     if (code == NELI_OK) code = link_open_over(&(*host)->link, port, over);
     return code == NELI_OK ? neli_session_new(&(*host)->session, family, port, true) : code;
 }
@@ -210,4 +210,33 @@ void neli_host_explain(const struct neli_host *host, int32_t code, const struct 
     } else if (neli_error_text(code, text, room) != NELI_OK) {
         snprintf(text, room, "code %d", code);
     }
+}
+
+/* The request that an error echoes, as a message of the item; of a capped one its header alone. */
+static struct neli_message echo_of(const struct neli_message *message, const struct neli_answer *answer) {
+    struct neli_message echo = {answer->echo_length, answer->echo_type, answer->echo_flags, answer->echo_number,
+                                answer->echo_port, 0, 0};
+    bool is_whole = message->type == NLMSG_ERROR && answer->code != 0 && (message->flags & NLM_F_CAPPED) == 0;
+    if (!is_whole) return echo;
+    echo.payload = message->payload + sizeof(struct nlmsgerr);
+    echo.payload_length = answer->echo_length - sizeof(struct nlmsghdr);
+    return echo;
+}
+
+void neli_host_refusal(const struct neli_host *host, struct neli_tables *tables, int32_t code,
+                       const struct neli_message *message, char *text, size_t room) {
+    struct neli_answer answer;
+    size_t size;
+    if (text == NULL || room == 0) return;
+    if (host != NULL && code == NELI_KERNEL_ERROR &&
+        neli_get_answer(host->item, host->item_length, message, &answer) == NELI_OK) {
+        struct neli_message echo = echo_of(message, &answer);
+        const struct neli_walk *list = &answer.attributes;
+        code = neli_diagnosis(tables, host->protocol, host->item, host->item_length, &echo, answer.code,
+                              host->item + list->place, list->end - list->place, text, room - 1, &size);
+        if (code == NELI_OK || code == NELI_ROOM) text[size < room ? size : room - 1] = 0;
+        if (code == NELI_OK || code == NELI_ROOM) return;
+        code = NELI_KERNEL_ERROR;
+    }
+    neli_host_explain(host, code, message, text, room);
 }
