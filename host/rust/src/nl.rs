@@ -123,6 +123,15 @@ impl<T> Nlmsgerr<T> {
         self.ext_ack.get_attr_handle()
     }
 
+    /// The same as bytes; none where they cannot be written.
+    pub(crate) fn ext_ack_bytes(&self) -> Vec<u8> {
+        let mut bytes = Vec::new();
+        if self.ext_ack.to_bytes(&mut bytes).is_err() {
+            bytes.clear();
+        }
+        bytes
+    }
+
     /// The kernel's text.
     pub fn text(&self) -> Option<String> {
         self.ext_ack().get_attr_payload_as_with_len(NlmsgerrAttr::Msg).ok()

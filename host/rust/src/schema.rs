@@ -25,14 +25,16 @@
 //! # }
 //! ```
 
-use crate::ToBytes;
-use crate::consts::nl::NlmF;
+mod checked;
+mod written;
+
+pub use checked::{KernelRefusal, Validation, Violation};
+pub use written::{WriteError, Written};
+
 use crate::consts::socket::NlFamily;
-use crate::err::{DeError, Refusal, SerError, done, refused};
-use crate::errno::Errno;
+use crate::err::{DeError, Refusal, done, refused};
 use crate::ffi;
 use crate::ffi::tables::{Named, Sought, Tables};
-use crate::nl::{NlType, Nlmsgerr, Nlmsghdr, message_with};
 use std::error::Error;
 use std::fmt;
 use std::sync::{Mutex, MutexGuard, PoisonError};
@@ -68,58 +70,12 @@ impl From<Refusal> for SchemaError {
     }
 }
 
-/// The first attribute of a message that the kernel's parser would refuse, and what is wrong with it.
-#[derive(Clone, Debug, PartialEq, Eq)]
-pub struct Violation(String);
-
-impl fmt::Display for Violation {
-    fn fmt(&self, f: &mut fmt::Formatter<'_>) -> fmt::Result {
-        f.write_str(&self.0)
-    }
-}
-
-impl Error for Violation {}
-
-/// The kernel's refusal of a request: its number by name and meaning, its text, and the attribute that it is about.
-#[derive(Clone, Debug, PartialEq, Eq)]
-pub struct KernelRefusal {
-    errno: i32,
-    attribute: Option<String>,
-    line: String,
-}
-
-impl KernelRefusal {
-    /// The number of the error, as 22 for `EINVAL`.
-    pub fn errno(&self) -> i32 {
-        self.errno
-    }
-
-    /// The name of that number, as `EINVAL`; `None` where it has none.
-    pub fn errno_name(&self) -> Option<&'static str> {
-        Errno::from(self.errno).name()
-    }
-
-    /// The path of the attribute that the kernel refuses, where it says which and the tables know it.
-    pub fn attribute(&self) -> Option<&str> {
-        self.attribute.as_deref()
-    }
-}
-
-/// `EINVAL: Invalid argument: Unknown device type: IFLA_LINKINFO.IFLA_INFO_KIND`.
-impl fmt::Display for KernelRefusal {
-    fn fmt(&self, f: &mut fmt::Formatter<'_>) -> fmt::Result {
-        f.write_str(&self.line)
-    }
-}
-
-impl Error for KernelRefusal {}
-
 /// Tables of families, by which messages are read. Threads may share it; one call at a time goes to the library.
 #[derive(Debug)]
 pub struct Schema(Mutex<Tables>);
 
 /// The text that a call writes, which is made again where it had no room; and the code of the call.
-fn written(mut call: impl FnMut(&mut [u8], &mut usize) -> i32) -> (i32, String) {
+fn text_of(mut call: impl FnMut(&mut [u8], &mut usize) -> i32) -> (i32, String) {
     let (mut out, mut size) = (vec![0; 1024], 0);
     let mut code = call(&mut out, &mut size);
     if out.len() < size {
@@ -188,69 +144,17 @@ impl Schema {
         self.messages(family, bytes).next().unwrap_or(Err(Refusal::SHORT.into()))
     }
 
-    /// A message of a program, written, so that [`Written::message`] is it by the tables. Of one without a body, as an
-    /// error, only the header is written. Refused as [`ToBytes::to_bytes`] refuses the body.
-    pub fn write<T: NlType, P: ToBytes>(
-        &self,
-        family: NlFamily,
-        message: &Nlmsghdr<T, P>,
-    ) -> Result<Written<'_>, SerError> {
-        self.of_bytes(family, message.to_message()?)
-    }
-
-    fn of_bytes(&self, family: NlFamily, bytes: Vec<u8>) -> Result<Written<'_>, SerError> {
-        let (mut walk, mut head) = (ffi::Walk { place: 0, end: bytes.len() }, ffi::Message::default());
-        match ffi::next_message(&bytes, &mut walk, &mut head) {
-            ffi::ITEM => Ok(Written { schema: self, protocol: protocol_of(family), bytes, head }),
-            code => Err(refused(code).into()),
-        }
-    }
-
-    /// The request that a router sends for this type, these flags and this body, with the number and the port 0.
-    /// Refused as [`ToBytes::to_bytes`] refuses the body.
-    ///
-    /// ```
-    /// use neli::consts::nl::NlmF;
-    /// use neli::consts::rtnl::{Ifla, RtAddrFamily, Rtm};
-    /// use neli::consts::socket::NlFamily;
-    /// use neli::rtnl::{IfinfomsgBuilder, RtattrBuilder};
-    /// use neli::schema::Schema;
-    ///
-    /// # fn main() -> Result<(), Box<dyn std::error::Error>> {
-    /// let mtu = RtattrBuilder::default().rta_type(Ifla::Mtu).rta_payload(1500u16).build()?;
-    /// let link = IfinfomsgBuilder::default().ifi_family(RtAddrFamily::Unspecified).ifi_index(1);
-    /// let body = link.rtattrs([mtu].into_iter().collect()).build()?;
-    /// let schema = Schema::built_in()?;
-    /// let request = schema.write_request(NlFamily::Route, Rtm::Setlink, NlmF::ACK, &body)?;
-    /// assert!(request.message().check().is_err(), "an MTU has four bytes");
-    /// # Ok(())
-    /// # }
-    /// ```
-    pub fn write_request<T: NlType, P: ToBytes>(
-        &self,
-        family: NlFamily,
-        nl_type: T,
-        flags: NlmF,
-        body: &P,
-    ) -> Result<Written<'_>, SerError> {
-        let mut payload = Vec::new();
-        body.to_bytes(&mut payload)?;
-        let flags = (flags | NlmF::REQUEST).bits();
-        let head = ffi::Message { kind: nl_type.into(), flags, ..ffi::Message::default() };
-        self.of_bytes(family, message_with(&head, &payload)?)
-    }
-
     /// The messages of a datagram as lines of JSON, and one more for the fault behind them, if there is one. Refused
     /// only as [`Refusal::LENGTH`] if these have more bytes than a `usize` counts.
     pub fn datagram_json(&self, family: NlFamily, datagram: &[u8]) -> Result<String, Refusal> {
         let mut tables = self.tables();
-        whole(written(|out, size| tables.datagram_json(protocol_of(family), datagram, out, size)))
+        whole(text_of(|out, size| tables.datagram_json(protocol_of(family), datagram, out, size)))
     }
 
     /// The same as lines of text. Refused as [`datagram_json`](Schema::datagram_json) is.
     pub fn datagram_text(&self, family: NlFamily, datagram: &[u8]) -> Result<String, Refusal> {
         let mut tables = self.tables();
-        whole(written(|out, size| tables.datagram_text(protocol_of(family), datagram, out, size)))
+        whole(text_of(|out, size| tables.datagram_text(protocol_of(family), datagram, out, size)))
     }
 }
 
@@ -262,30 +166,6 @@ fn protocol_of(family: NlFamily) -> u16 {
 fn whole((code, text): (i32, String)) -> Result<String, Refusal> {
     done(code)?;
     Ok(text)
-}
-
-/// The bytes of a program's message, for the tables of a [`Schema`].
-#[derive(Clone, Debug)]
-pub struct Written<'s> {
-    schema: &'s Schema,
-    protocol: u16,
-    bytes: Vec<u8>,
-    head: ffi::Message,
-}
-
-impl Written<'_> {
-    /// The message.
-    #[must_use]
-    pub fn message(&self) -> Message<'_> {
-        let sought = Sought { protocol: self.protocol, bytes: &self.bytes, message: self.head };
-        Message { schema: self.schema, sought }
-    }
-
-    /// Its bytes, with its padding.
-    #[must_use]
-    pub fn as_bytes(&self) -> &[u8] {
-        &self.bytes
-    }
 }
 
 /// The messages of a datagram, in order.
@@ -333,59 +213,13 @@ impl<'s> Message<'s> {
     /// As one object of JSON. Refused as [`Schema::datagram_json`] is.
     pub fn to_json(&self) -> Result<String, Refusal> {
         let mut tables = self.schema.tables();
-        whole(written(|out, size| tables.message_json(&self.sought, out, size)))
+        whole(text_of(|out, size| tables.message_json(&self.sought, out, size)))
     }
 
     /// As lines of text. Refused as [`Schema::datagram_json`] is.
     pub fn to_text(&self) -> Result<String, Refusal> {
         let mut tables = self.schema.tables();
-        whole(written(|out, size| tables.message_text(&self.sought, out, size)))
-    }
-
-    /// Checks that its attributes are as their rows say, as those of a request before it is sent. Refused as
-    /// [`Violation`] at the first that is not. What has no row passes.
-    pub fn check(&self) -> Result<(), Violation> {
-        let mut tables = self.schema.tables();
-        match written(|out, size| tables.check(&self.sought, out, size)) {
-            (ffi::VIOLATION, text) => Err(Violation(text)),
-            _ => Ok(()),
-        }
-    }
-
-    /// The path to the attribute that contains an offset, counted from the message's first byte, as
-    /// `IFLA_LINKINFO.IFLA_INFO_KIND`; `None` where the tables know no attribute there.
-    #[must_use]
-    pub fn path_at(&self, offset: usize) -> Option<String> {
-        let mut tables = self.schema.tables();
-        match written(|out, size| tables.path_at(&self.sought, offset, out, size)) {
-            (ffi::ITEM, path) => Some(path),
-            _ => None,
-        }
-    }
-
-    /// The kernel's refusal of this request, as an error that names the attribute.
-    ///
-    /// ```
-    /// use neli::consts::socket::NlFamily;
-    /// use neli::err::RouterError;
-    /// use neli::schema::Schema;
-    ///
-    /// fn explained(schema: &Schema, sent: &[u8], error: RouterError) -> Box<dyn std::error::Error> {
-    ///     match (schema.message(NlFamily::Route, sent), error) {
-    ///         (Ok(request), RouterError::Nlmsgerr(answer)) => request.refusal(&answer).into(),
-    ///         (_, error) => error.into(),
-    ///     }
-    /// }
-    /// ```
-    #[must_use]
-    pub fn refusal<T>(&self, answer: &Nlmsgerr<T>) -> KernelRefusal {
-        let offset = answer.offset().unwrap_or(0) as usize;
-        let said = answer.text().unwrap_or_default();
-        let attribute = self.path_at(offset);
-        let mut tables = self.schema.tables();
-        let about = (answer.error(), said.as_bytes(), offset);
-        let (_, line) = written(|out, size| tables.refusal_text(&self.sought, about, out, size));
-        KernelRefusal { errno: answer.error().wrapping_neg(), attribute, line }
+        whole(text_of(|out, size| tables.message_text(&self.sought, out, size)))
     }
 
     /// Its attributes by name, those in a nest behind the nest. There are none where no table knows the message. It is

@@ -99,6 +99,39 @@ unsafe extern "C" {
         room: usize,
         size: *mut usize,
     ) -> i32;
+    fn neli_c_check_as(
+        tables: *mut Opaque,
+        validation: i32,
+        protocol: u16,
+        bytes: *const u8,
+        length: usize,
+        message: *const Message,
+        out: *mut u8,
+        room: usize,
+        size: *mut usize,
+    ) -> i32;
+    fn neli_c_write_json(
+        tables: *mut Opaque,
+        protocol: u16,
+        json: *const u8,
+        json_length: usize,
+        out: *mut u8,
+        room: usize,
+        size: *mut usize,
+    ) -> i32;
+    fn neli_c_diagnosis(
+        tables: *mut Opaque,
+        protocol: u16,
+        bytes: *const u8,
+        length: usize,
+        message: *const Message,
+        code: i32,
+        ext_ack: *const u8,
+        ext_ack_length: usize,
+        out: *mut u8,
+        room: usize,
+        size: *mut usize,
+    ) -> i32;
     fn neli_c_path_at(
         tables: *mut Opaque,
         protocol: u16,
@@ -240,6 +273,29 @@ impl Tables {
         let (bytes, length, at, room) = (of.bytes.as_ptr(), of.bytes.len(), out.as_mut_ptr(), out.len());
         // SAFETY: as for `message_text`.
         unsafe { neli_c_check(&mut self.raw, of.protocol, bytes, length, &of.message, at, room, size) }
+    }
+
+    /// The same, by the parser with this number.
+    pub fn check_as(&mut self, validation: i32, of: &Sought<'_>, out: &mut [u8], size: &mut usize) -> i32 {
+        let (bytes, length, at, room) = (of.bytes.as_ptr(), of.bytes.len(), out.as_mut_ptr(), out.len());
+        let (raw, message) = (&mut self.raw, &of.message);
+        // SAFETY: as for `message_text`.
+        unsafe { neli_c_check_as(raw, validation, of.protocol, bytes, length, message, at, room, size) }
+    }
+
+    /// The message that a text of JSON is, or why it is none.
+    pub fn write_json(&mut self, protocol: u16, json: &[u8], out: &mut [u8], size: &mut usize) -> i32 {
+        let (at, room) = (out.as_mut_ptr(), out.len());
+        // SAFETY: as for `message_text`.
+        unsafe { neli_c_write_json(&mut self.raw, protocol, json.as_ptr(), json.len(), at, room, size) }
+    }
+
+    /// A refusal of a request in a line, by the attributes of its acknowledgement.
+    pub fn diagnosis(&mut self, of: &Sought<'_>, code: i32, ext_ack: &[u8], out: &mut [u8], size: &mut usize) -> i32 {
+        let (bytes, length, at, room) = (of.bytes.as_ptr(), of.bytes.len(), out.as_mut_ptr(), out.len());
+        let (raw, message, said, said_length) = (&mut self.raw, &of.message, ext_ack.as_ptr(), ext_ack.len());
+        // SAFETY: as for `message_text`.
+        unsafe { neli_c_diagnosis(raw, of.protocol, bytes, length, message, code, said, said_length, at, room, size) }
     }
 
     /// The path to the attribute at an offset of a message.

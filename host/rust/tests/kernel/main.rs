@@ -1,5 +1,6 @@
 //! The crate against the kernel of this machine, each test in a network namespace of its own.
 
+mod by_name;
 mod dumps;
 mod lent;
 mod links;
