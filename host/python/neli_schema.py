@@ -20,11 +20,14 @@ from typing import Any, Iterator
 import neli
 from neli import ITEM, KIND, OK, ROOM
 
-__all__ = ["Schema", "TableError"]
+__all__ = ["NamedSocket", "Schema", "TableError", "WriteError", "LIBERAL", "STRICT"]
 
 # neli.h
 VIOLATION, STATE, TABLE = 6, -5, -17
 KIND_NEST, KIND_HOPS, KIND_HOP, KIND_REST = 27, 28, 32, 35
+# Which of the kernel's two parsers reads a request: that of older messages, or the one that also refuses attributes
+# that it does not know.
+LIBERAL, STRICT = 0, 1
 
 
 class _Tables(ctypes.Structure):
@@ -61,6 +64,9 @@ def _library():
         "neli_c_message_name": [*message, *room],
         "neli_c_named_items": [*message, pointer, size, pointer, *room],
         "neli_c_check": [*message, *room],
+        "neli_c_check_as": [pointer, ctypes.c_int32, *message[1:], *room],
+        "neli_c_write_json": [pointer, u16, *slice_of, *room],
+        "neli_c_diagnosis": [*message, ctypes.c_int32, *slice_of, *room],
         "neli_c_path_at": [*message, size, *room],
         "neli_c_refusal_text": [*message, ctypes.c_int32, *slice_of, size, *room],
     }
@@ -81,14 +87,24 @@ class TableError(ValueError):
         self.line, self.reason = line, reason
 
 
-def _written(call, *words):
-    """The code of a call that writes a text, and the text; the call is made again where it had no room."""
+class WriteError(ValueError):
+    """A dictionary or JSON is no message by the tables: `str` has the path of the member that it is about, and why."""
+
+
+def _written_bytes(call, *words):
+    """The code of a call that writes, and what it has written; the call is made again where it had no room."""
     out, size = ctypes.create_string_buffer(2048), ctypes.c_size_t()
     code = call(*words, out, len(out), ctypes.byref(size))
     if size.value > len(out):
         out = ctypes.create_string_buffer(size.value)
         code = call(*words, out, len(out), ctypes.byref(size))
-    return code, _part(out.raw, 0, size.value)
+    return code, out.raw[: size.value]
+
+
+def _written(call, *words):
+    """The same of a text."""
+    code, text = _written_bytes(call, *words)
+    return code, _part(text, 0, len(text))
 
 
 def _part(text, place, length):
@@ -282,6 +298,33 @@ class Schema:
             _done(code)
         return text if code == VIOLATION else None
 
+    def check_as(self, message: neli.Message, validation: int) -> str | None:
+        """The same by the parser that is named, LIBERAL or STRICT; a ValueError if it is neither."""
+        neli._fit(31, validation=validation)
+        tables, *words = self._words(message)
+        code, text = _written(_lib.neli_c_check_as, tables, validation, *words)
+        if code == KIND:
+            raise ValueError(f"validation: {validation} is neither LIBERAL nor STRICT")
+        if code not in (OK, VIOLATION):
+            _done(code)
+        return text if code == VIOLATION else None
+
+    def write(self, message: dict[str, Any] | str | bytes, family: int = neli.NETLINK_ROUTE) -> bytes:
+        """The message that a dictionary or a text of JSON is (docs/WRITING.md), its header and its payload.
+
+        `{"name": "RTM_NEWLINK", "attributes": {"ifi_index": 3, "IFLA_MTU": 1500}}`. A WriteError, with the path of what
+        is wrong, if it is none. Of generic netlink the number of the family has to be learnt before.
+        """
+        neli._fit(16, family=family)
+        given = json.dumps(message) if isinstance(message, dict) else message
+        given = _encoded("message", given)
+        words = ctypes.byref(self._tables), family, given, len(given)
+        code, data = _written_bytes(_lib.neli_c_write_json, *words)
+        if code == VIOLATION:
+            raise WriteError(_part(data, 0, len(data)))
+        _done(code)
+        return data
+
     def path_at(self, message: neli.Message, offset: int) -> str | None:
         """The path to the attribute at an offset of a message, or None."""
         neli._fit(64, offset=offset)
@@ -301,3 +344,103 @@ class Schema:
         code, line = _written(_lib.neli_c_refusal_text, *self._words(message), code, text, len(text), offset)
         _done(code)
         return line
+
+    def diagnosis(self, message: neli.Message, error: neli.NetlinkError) -> str:
+        """The kernel's refusal of a request in a line, by all that its acknowledgement says.
+
+        It names the attribute, with the value that was sent and what the kernel would take, or the one that is missing.
+        """
+        if not isinstance(error, neli.NetlinkError):
+            raise neli._wrong("error", error, "a NetlinkError")
+        said = b"".join(neli.nla(it.number, bytes(it.payload), it.is_nested) for it in error.attributes)
+        code, line = _written(_lib.neli_c_diagnosis, *self._words(message), -error.code, said, len(said))
+        _done(code)
+        return line
+
+
+class NamedSocket:
+    """Requests by name over a NetlinkSocket: `do` and `dump` take the name of a message and what stands in it, and
+    return the replies as dictionaries.
+
+        with NamedSocket() as named:
+            named.do("RTM_NEWLINK", {"ifi_index": 3, "IFLA_MTU": 1500})
+
+    Without a socket it opens one of routing, and without a Schema one of the built-in tables. `socket` and `schema` are
+    these. `close`, or the end of a `with`, closes what it has opened.
+    """
+
+    def __init__(self, socket: neli.NetlinkSocket | None = None, schema: Schema | None = None):
+        self._opened: list[neli.NetlinkSocket | Schema] = []
+        if socket is None:
+            socket = neli.NetlinkSocket(neli.NETLINK_ROUTE)
+            self._opened.append(socket)
+        if schema is None:
+            schema = Schema()
+            self._opened.append(schema)
+        self.socket, self.schema, self._has_families = socket, schema, False
+
+    def close(self) -> None:
+        """Closes what it has opened; it may be closed again."""
+        for it in self._opened:
+            it.close()
+
+    def __enter__(self) -> NamedSocket:
+        return self
+
+    def __exit__(self, *_: object) -> None:
+        self.close()
+
+    def learn(self, name: str) -> None:
+        """Has the kernel load a family of generic netlink, if it is a module, and learns its number.
+
+        `do` and `dump` learn those that are loaded. A NetlinkError if there is none of this name.
+        """
+        request = self.write("CTRL_CMD_GETFAMILY", {"CTRL_ATTR_FAMILY_NAME": name})
+        self._learn(self._done(request, 0))
+
+    def _learn(self, messages):
+        for it in messages:
+            self.schema.learn_from(it)
+
+    def write(self, name: str, attributes: dict[str, Any] | list[Any] | None = None) -> neli.Message:
+        """The request of this name that `do` sends: fields and attributes by name, or the array of `neli_show json`.
+
+        A WriteError, with the path of what is wrong, if it is none.
+        """
+        family, is_controller = self.socket.family, name.startswith("CTRL_CMD_")
+        if family == neli.NETLINK_GENERIC and not self._has_families and not is_controller:
+            self._learn(self._listed(self.write("CTRL_CMD_GETFAMILY"), 0, 5))
+            self._has_families = True
+        asked = {"name": name, "attributes": {} if attributes is None else attributes}
+        return neli.messages(self.schema.write(asked, family), family)[0]
+
+    def do(self, name: str, attributes: dict[str, Any] | list[Any] | None = None,
+           flags: int = 0) -> list[dict[str, Any]]:
+        """Sends a request with an acknowledgement and these flags, as NLM_F_CREATE, and returns the replies.
+
+        Each is a dictionary, as `Schema.to_dict` has it. A NetlinkError if the kernel refuses, whose text is
+        `Schema.diagnosis`: it names the attribute. A WriteError as of `write`.
+        """
+        return [self.schema.to_dict(it) for it in self._done(self.write(name, attributes), flags)]
+
+    def dump(self, name: str, attributes: dict[str, Any] | list[Any] | None = None, flags: int = 0,
+             times: int = 5) -> list[dict[str, Any]]:
+        """The replies of a whole list, which is requested as by NetlinkSocket.dump; else as `do`."""
+        return [self.schema.to_dict(it) for it in self._listed(self.write(name, attributes), flags, times)]
+
+    def _done(self, request, flags):
+        flags |= request.flags | neli.NLM_F_ACK
+        return self._explained(request, self.socket.nlm_request, request.payload, request.type, flags)
+
+    def _listed(self, request, flags, times):
+        return self._explained(request, self.socket.dump, request.type, request.payload, flags, times)
+
+    def _explained(self, request, call, *words):
+        """What a call returns; the kernel's refusal has the diagnosis as its text."""
+        try:
+            return call(*words)
+        except neli.NetlinkError as error:
+            if error.status != neli.KERNEL_ERROR:
+                raise
+            line = self.schema.diagnosis(request, error)
+            raise neli.NetlinkError(error.code, line, error.status, error.attributes) from error
