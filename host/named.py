@@ -3,7 +3,8 @@
 `try_do` asks `ip` what `do` has made. `try_named` sends the same requests by `do` and by NamedSocket of neli_schema,
 and wants that a refusal names the attribute that the kernel's acknowledgement names. Where NELI_YNL names a folder with
 the kernel's own reader in Python (tools/net/ynl, Documentation/netlink/specs), it sends them by that too: the bytes of
-the requests are the same, and so are the replies and the refusals, name by name.
+the requests are the same, and so are the replies and the refusals, name by name. `try_writing` runs the examples of
+docs/WRITING.md in C, Python and the shell.
 """
 
 import copy
@@ -12,6 +13,7 @@ import os
 import re
 import subprocess
 import sys
+import tempfile
 
 from inside import HERE, TOP, ip, ip_json, not_run, well
 from limit import run
@@ -387,4 +389,53 @@ def path_of(path, ours):
     return [plain(it) for it in path.split(".")] if path else [ours]
 
 
-INSIDE = {"do": try_do, "named": try_named}
+# ---- The page
+
+# What the part of a program on docs/WRITING.md stands in.
+AROUND = """#include <linux/netlink.h>
+#include <neli_host.h>
+#include <stdio.h>
+#include <string.h>
+
+int main(void) {
+    struct neli_tables tables = NELI_TABLES_CLOSED;
+    struct neli_walk walk = {0, 0};
+    struct neli_message message;
+    struct neli_host *host;
+    uint8_t sent[1024];
+    size_t handle;
+    if (neli_tables_built_in(&tables) != NELI_OK || neli_host_open(&host, NETLINK_ROUTE, NULL, 0) != NELI_OK) return 1;
+%s
+    neli_host_close(host);
+    neli_tables_free(&tables);
+    return 0;
+}
+"""
+
+
+def page_example(language):
+    """The example of docs/WRITING.md in a language."""
+    with open(f"{TOP}/docs/WRITING.md", encoding="utf-8") as it:
+        return re.search(rf"^```{language}\n(.*?)^```", it.read(), re.M | re.S)[1]
+
+
+def try_writing(at):
+    """What the examples make is there; what they say of a refusal is what the page says."""
+    with tempfile.TemporaryDirectory() as place:
+        os.symlink(f"{at}/do", f"{place}/neli_do")
+        paths = {"PATH": f"{place}:{os.environ['PATH']}", "PYTHONPATH": f"{HERE}/python"}
+        ran = run("sh", "-ec", page_example("sh"), env={**os.environ, **paths})
+        lines = ran.stdout.splitlines()
+        assert ran.returncode == 0 and [json.loads(it)["name"] for it in lines[:-1]] == ["RTM_NEWLINK"] * 3, ran
+        assert ip_json("link", "show", "br")[0]["mtu"] == 1400
+        ip("link", "del", "dev", "br")
+        ran = run(sys.executable, "-c", page_example("python"), env={**os.environ, **paths})
+        indices, line = ran.stdout.splitlines()
+        assert json.loads(indices) == [it["ifindex"] for it in ip_json("link")] and len(json.loads(indices)) == 2, ran
+        first, last = re.search(r"# (.*?) \.\. : (.*)", page_example("python")).groups()
+        assert line.startswith(first) and last in line, ran
+    wanted = re.search(r"/[*] (.*?) [*]/", page_example("c"))[1]
+    assert well(f"{at}/writing") == f"{wanted}\n"
+
+
+INSIDE = {"do": try_do, "named": try_named, "writing": try_writing}

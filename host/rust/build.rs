@@ -77,6 +77,7 @@ fn main() {
     shared(&here, "neli.h", "include/neli.h");
     shared(&here, "RUST.md", "docs/RUST.md");
     shared(&here, "README.md", "README.md");
+    shared(&here, "WRITING.md", "docs/WRITING.md");
     println!("cargo::rerun-if-changed={}", table.display());
     let text = fs::read_to_string(&table).unwrap_or_else(|error| panic!("{}: {error}", table.display()));
     let out = PathBuf::from(env::var("OUT_DIR").expect("cargo says where to write"));

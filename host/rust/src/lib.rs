@@ -64,10 +64,11 @@ pub mod utils;
 use err::{DeError, SerError};
 use std::ffi::{CStr, CString};
 
-/// The examples of the page on this crate, and of the first page, are built.
+/// The examples of the page on this crate, of the first page, and of that on writing are built.
 #[cfg(doctest)]
 #[doc = include_str!(env!("NELI_FILE_RUST_MD"))]
 #[doc = include_str!(env!("NELI_FILE_README_MD"))]
+#[doc = include_str!(env!("NELI_FILE_WRITING_MD"))]
 struct Page;
 
 /// What is written as a payload.

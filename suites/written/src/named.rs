@@ -62,6 +62,26 @@ fn messages_are_those_of_other_programs(rt: HostRuntime) -> Result<(), Fail> {
     Ok(())
 }
 
+/// The example of docs/WRITING.md: `struct ifinfomsg`, the MTU, and two nests, by linux/if_link.h.
+#[test]
+fn the_example_of_the_page(rt: HostRuntime) -> Result<(), Fail> {
+    let alloc = rt.alloc();
+    let tables = built_in(alloc)?;
+    let mut message = Message::named(alloc, &tables, "RTM_NEWLINK")?;
+    message.field("ifi_index", 3)?;
+    message.field("ifi_flags", "up")?;
+    message.attr("IFLA_MTU", 1500)?;
+    message.attr("IFLA_LINKINFO.IFLA_INFO_KIND", "vlan")?;
+    message.attr("IFLA_LINKINFO.IFLA_INFO_DATA.IFLA_VLAN_ID", 100)?;
+    let payload = message.payload()?;
+    assert_eq!(rt;
+        &payload[..],
+        &b"\0\0\0\0\x03\0\0\0\x01\0\0\0\0\0\0\0\x08\0\x04\0\xdc\x05\0\0\
+        \x1c\0\x12\x80\x09\0\x01\0vlan\0\0\0\0\x0c\0\x02\x80\x06\0\x01\0\x64\0\0\0"[..]
+    );
+    Ok(())
+}
+
 /// Why this value of an attribute at a path of a link is refused, and what is printed of it.
 fn refused<'v>(alloc: Global, path: &str, value: impl Into<Given<'v>>) -> Result<String, Fail> {
     let given = value.into();
