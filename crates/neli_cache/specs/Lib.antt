@@ -1,0 +1,5 @@
+pub mod Changes
+pub mod Tables
+pub mod Keys
+pub mod Families
+pub mod Fold
