@@ -1,7 +1,6 @@
 -- The keys of routing's objects, by the numbers of linux/rtnetlink.h and the headers of its messages.
-use Rattle.std.specs.Prelude.{ℕ, ◌^◌, ◌-◌, List, [], ◌∷◌, Option, None, Some}
+use Rattle.std.specs.Prelude.{ℕ, ◌^◌, ◌-◌, [], ◌∷◌, None, Some}
 use Rattle.neli_cache.specs.declared.keys.Keys.{Keys}
-use Rattle.neli_cache.specs.declared.keys.Part.{Part}
 use Rattle.neli_cache.specs.declared.keys.Part.TheVariants.{Attribute, Bytes, Nothing}
 
 -- RTM_NEWLINK and RTM_DELLINK of AF_UNSPEC; struct ifinfomsg, whose ifi_index is the key

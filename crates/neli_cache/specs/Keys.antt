@@ -1,5 +1,5 @@
 -- Which object a message is about, and its key.
-use Rattle.std.specs.Prelude.{ℕ, Bool, true, false, ◌&&◌, ◌==◌, nat_le, not, if◌then◌else◌, List, [], ◌∷◌, ◌++◌}
+use Rattle.std.specs.Prelude.{ℕ, Bool, true, false, ◌&&◌, ◌==◌, nat_le, if◌then◌else◌, List, [], ◌++◌}
 use Rattle.std.specs.Prelude.{Option, None, Some, Result, Ok, Err, drop, flat_map, length, slice_get, slice_range, min}
 use Rattle.std.specs.Option.{option_copied}
 use Rattle.std.specs.Int.{to_le_bytes, w16}

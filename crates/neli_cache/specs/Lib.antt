@@ -3,3 +3,4 @@ pub mod Tables
 pub mod Keys
 pub mod Families
 pub mod Fold
+pub mod Histories

@@ -14,6 +14,7 @@ mod cache;
 mod change;
 mod families;
 mod keys;
+pub mod laws;
 mod table;
 
 pub use cache::Cache;

@@ -1,4 +1,4 @@
-use Rattle.std.proofs.Common.{◌≡◌, ap, sym, ◌∙◌, Some, None}
+use Rattle.std.proofs.Common.{ap, sym, ◌∙◌, Some}
 use Rattle.std.specs.Prelude.{option_map}
 use Rattle.neli_cache.specs.Tables.{at}
 use Rattle.neli_cache.proofs.Keyed.{at-shown}
