@@ -4,3 +4,4 @@ pub mod Keys
 pub mod Families
 pub mod Fold
 pub mod Histories
+pub mod Differences

@@ -12,6 +12,7 @@
 
 mod cache;
 mod change;
+mod difference;
 mod families;
 mod keys;
 pub mod laws;
@@ -19,6 +20,7 @@ mod table;
 
 pub use cache::Cache;
 pub use change::Change;
+pub use difference::Changes;
 pub use keys::{Keys, Part};
 pub use table::Table;
 
