@@ -24,6 +24,7 @@ pub use Rattle.neli_kernel_laws.specs as kernel_laws
 pub use Rattle.neli_util.specs as util
 pub use Rattle.neli_answers.specs as answers
 pub use Rattle.neli_session.specs as session
+pub use Rattle.neli_cache.specs as cache
 pub use Rattle.neli_session_laws.specs as session_laws
 pub use Rattle.neli_deliveries.specs as deliveries
 pub use Rattle.neli_queues.specs as queues

@@ -9,6 +9,7 @@
 //! | to look up and nest attributes | [`attr`], [`genl`], [`rtnl`], [`types`] |
 //! | each reply at its request | [`router::synchronous`] |
 //! | the same without copies, where an answer ends by its protocol | [`session`] |
+//! | a table of links, addresses, routes that is kept current | [`cache`] |
 //! | numbers and flags of the kernel's headers | [`consts`] |
 //! | the calls that a program writes most, each in one line | [`short`] |
 //! | to look at a few fields of many messages, without a copy | [`lent`] |
@@ -126,6 +127,7 @@
 #![tactic(auto)]
 
 pub mod attr;
+pub mod cache;
 pub mod connector;
 pub mod consts;
 pub mod err;

@@ -33,14 +33,25 @@ neighbours family = record {
   parts = Bytes 4 8 ∷ Attribute 1 ∷ Nothing ∷ Nothing ∷ Nothing ∷ Nothing ∷ [];
 }
 
--- RTM_NEWROUTE and RTM_DELROUTE of a family; struct rtmsg: rtm_dst_len, rtm_tos; RTA_DST, RTA_TABLE, RTA_PRIORITY
-abbrev pub routes : ℕ → Keys
-routes family = record {
+-- RTM_NEWROUTE and RTM_DELROUTE of AF_INET; struct rtmsg: rtm_dst_len, rtm_src_len, rtm_tos; RTA_DST, RTA_TABLE,
+-- RTA_PRIORITY
+abbrev pub routes : Keys
+routes = record {
   new_type = 24;
   gone_type = 25;
-  family = Some family;
+  family = Some 2;
   header = 12;
-  parts = Bytes 1 2 ∷ Bytes 3 4 ∷ Attribute 1 ∷ Attribute 15 ∷ Attribute 6 ∷ Nothing ∷ [];
+  parts = Bytes 1 4 ∷ Attribute 1 ∷ Attribute 15 ∷ Attribute 6 ∷ Nothing ∷ Nothing ∷ [];
+}
+
+-- the same of AF_INET6, and also RTA_OIF and RTA_GATEWAY
+abbrev pub routes_of_ipv6 : Keys
+routes_of_ipv6 = record {
+  new_type = 24;
+  gone_type = 25;
+  family = Some 10;
+  header = 12;
+  parts = Bytes 1 4 ∷ Attribute 1 ∷ Attribute 15 ∷ Attribute 6 ∷ Attribute 4 ∷ Attribute 5 ∷ [];
 }
 
 -- RTM_NEWRULE and RTM_DELRULE; struct fib_rule_hdr but its flags, and all attributes

@@ -1,17 +1,18 @@
 //! The keys of routing's objects.
 
 ghost use Rattle.std.specs.Prelude.{◌≡◌};
-ghost use Rattle.neli_cache.specs.Families.{addresses, links, neighbours, routes, rules};
+ghost use Rattle.neli_cache.specs.Families.{addresses, links, neighbours, next_hops, routes, routes_of_ipv6, rules};
 
 use crate::Keys;
 use crate::Part::{Attribute, Bytes, Nothing};
 use neli_consts_attrs::{Ifa, Nda, Rta};
+use neli_consts_linux::{Nha, RTM_DELNEXTHOP, RTM_NEWNEXTHOP};
 use neli_consts_routing::Rtm;
 use neli_wire::Constant;
 
 impl Keys {
-    /// Links, by their index: `ifi_index`, the bytes 4 to 8 as they stand. What other families say of a link, as bridges
-    /// of a port of theirs, is not meant: Linux sends it with the same types.
+    /// Links, by their index: `ifi_index`, four bytes. What bridges say of their ports is not meant: Linux tells that with
+    /// the same types, in the family `AF_BRIDGE`.
     pub fn links() -> Keys
         ensures { result ≡ links }
     {
@@ -24,7 +25,7 @@ impl Keys {
         }
     }
 
-    /// Addresses, by family, length of the prefix, link, and the two addresses `IFA_LOCAL` and `IFA_ADDRESS`.
+    /// Addresses, by family, length of the prefix, link, `IFA_LOCAL` and `IFA_ADDRESS`.
     pub fn addresses() -> Keys
         ensures { result ≡ addresses }
     {
@@ -44,8 +45,7 @@ impl Keys {
         }
     }
 
-    /// Neighbours of a family, by link and address (`NDA_DST`). A dump of one family is meant: one of all families lacks
-    /// the forwarding tables of bridges, of which the same group tells.
+    /// Neighbours of IPv4 or of IPv6 (2 or 10), by link and address (`NDA_DST`).
     pub fn neighbours(family: u8) -> Keys
         ensures { result ≡ neighbours family }
     {
@@ -65,23 +65,44 @@ impl Keys {
         }
     }
 
-    /// Routes of a family, by what Linux looks up: the destination and its length, the type of service, the table and the
-    /// metric. Several routes with these same values are one object, of which the last counts.
-    pub fn routes(family: u8) -> Keys
-        ensures { result ≡ routes family }
+    /// Routes of IPv4, by destination and its length, type of service, table and metric. Of several with the same of these
+    /// the last one counts. Linux tells nobody of those that go with their link.
+    pub fn routes() -> Keys
+        ensures { result ≡ routes }
     {
         Keys {
             new_type: Rtm::Newroute.to_wire(),
             gone_type: Rtm::Delroute.to_wire(),
-            family: Some(family),
+            family: Some(2),
             header: 12,
             parts: [
-                Bytes(1, 2),
-                Bytes(3, 4),
+                Bytes(1, 4),
                 Attribute(Rta::Dst.to_wire()),
                 Attribute(Rta::Table.to_wire()),
                 Attribute(Rta::Priority.to_wire()),
                 Nothing,
+                Nothing,
+            ],
+        }
+    }
+
+    /// Routes of IPv6, also by link and gateway: each link has one to `fe80::/64`. A route that was replaced by one of
+    /// another link or gateway stays, since Linux tells of the new one alone.
+    pub fn routes_of_ipv6() -> Keys
+        ensures { result ≡ routes_of_ipv6 }
+    {
+        Keys {
+            new_type: Rtm::Newroute.to_wire(),
+            gone_type: Rtm::Delroute.to_wire(),
+            family: Some(10),
+            header: 12,
+            parts: [
+                Bytes(1, 4),
+                Attribute(Rta::Dst.to_wire()),
+                Attribute(Rta::Table.to_wire()),
+                Attribute(Rta::Priority.to_wire()),
+                Attribute(Rta::Oif.to_wire()),
+                Attribute(Rta::Gateway.to_wire()),
             ],
         }
     }
@@ -98,6 +119,26 @@ impl Keys {
             parts: [
                 Bytes(0, 8),
                 Bytes(12, usize::MAX),
+                Nothing,
+                Nothing,
+                Nothing,
+                Nothing,
+            ],
+        }
+    }
+
+    /// Next hops, by their number (`NHA_ID`). Linux tells nobody of those that go with their link.
+    pub fn next_hops() -> Keys
+        ensures { result ≡ next_hops }
+    {
+        Keys {
+            new_type: RTM_NEWNEXTHOP.to_wire(),
+            gone_type: RTM_DELNEXTHOP.to_wire(),
+            family: None,
+            header: 8,
+            parts: [
+                Attribute(Nha::Id.to_wire()),
+                Nothing,
                 Nothing,
                 Nothing,
                 Nothing,
