@@ -23,14 +23,3 @@ pub use change::Change;
 pub use difference::Changes;
 pub use keys::{Keys, Part};
 pub use table::Table;
-
-#[cfg(test)]
-mod tests {
-    use super::*;
-
-    #[test]
-    fn builds(rt: HostRuntime) {
-        let cache = Cache::new(rt.alloc(), Keys::links());
-        assert_eq!(rt; cache.table().len(), 0);
-    }
-}

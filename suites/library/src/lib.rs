@@ -3,6 +3,7 @@
 //! - [`values`]: the wire layer, constants, groups and bit arrays. [`attributes`]: attributes and lists of them.
 //! - [`bodies`]: the bodies of all families. [`payloads`]: attributes' payloads other than numbers and texts.
 //! - [`messages`]: messages, owned and lent. [`router`]: the router and the resolvers, over each store.
+//! - [`cache`]: a table of objects that is kept current.
 //! - [`session`]: a session: its requests, its readers and their verdicts.
 //! - [`simulator`]: a kernel's answers. [`schema`]: messages by the tables of their families. [`programs`]: whole
 //!   programs. [`pages`]: examples of docs/. [`doors`]: what the exports of `neli_c` stand on. [`trial`]: what is changed
@@ -14,6 +15,8 @@
 mod attributes;
 #[cfg(test)]
 mod bodies;
+#[cfg(test)]
+mod cache;
 #[cfg(test)]
 mod doors;
 #[cfg(test)]

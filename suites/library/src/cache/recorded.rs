@@ -1,0 +1,247 @@
+//! Each family's objects, by what Linux sent: a constant whose name ends in a number is that recording.
+
+use super::script::Step::{Answer, Count, Ended, Is, Notified, Requested};
+use super::script::{Script, play};
+use neli::cache::Change::{Changed, Gone, New};
+use neli::cache::{Change, Keys, Part};
+use neli::session::Freshness::Current;
+use neli::session::Verdict;
+
+/// All addresses of IPv4; that of another end, as it was when it was made; one of IPv6 that was made, and removed.
+const ADDRESSES_0155: &str =
+    "4c00000014000200ed030000ed1c08fa020880fe01000000080001007f000001080002007f0000010700\
+    03006c6f0000080008008000000014000600ffffffffffffffff86710300867103005800000014000200\
+    ed030000ed1c08fa021880000300000008000100c000020108000200c000020108000400c00002ff0a00\
+    03007665746830000000080008008000000014000600ffffffffffffffff447303004473030050000000\
+    14000200ed030000ed1c08fa021881000300000008000100c000020208000200c00002020c0003007665\
+    7468303a7800080008008100000014000600ffffffffffffffff5d7303005d7303005000000014000200\
+    ed030000ed1c08fa021800000400000008000100c633640108000200c63364010a000300766574683200\
+    0000080008000000000014000600dc030000ac0b000076730300767303005000000014000200ed030000\
+    ed1c08fa022080000400000008000100cb00710208000200cb0071010a00030076657468320000000800\
+    08008000000014000600ffffffffffffffff8e7303008e7303004c00000014000200ed030000ed1c08fa\
+    0210800005000000080001000a090001080002000a090001080003006272300008000800800000001400\
+    0600fffffffffffffffff4730300f4730300";
+
+const PEER_0099: &str =
+    "5000000014000000fa97026b81310000022080000400000008000100cb00710208000200cb0071010a00\
+    03007665746832000000080008008000000014000600ffffffffffffffff8e7303008e730300";
+
+const MADE_0105: &str =
+    "500000001400000000000000000000000a4080fd0400000014000100fe80000000000000000000fffe00\
+    000314000600ffffffffffffffff2c7303002c730300080008008000000005000b0003000000";
+
+const REMOVED_0090: &str =
+    "500000001500000000000000000000000a4080fd0400000014000100fe80000000000000000000fffe00\
+    000314000600ffffffffffffffffcc710300cc710300080008008000000005000b0003000000";
+
+/// Two rules that were made, and the removal of the first.
+const RULE_0132: &str =
+    "44000000200000000398026bec31000002001800000000060000000008000f000000000008000e00ffff\
+    ffff050015000000000008000600ca000000080002000a090c00";
+
+const RULE_0133: &str =
+    "44000000200000000398026bf031000002000800fc0000010200000008000f00e803000008000e00ffff\
+    ffff050015000000000008000600cc000000080002000a000000";
+
+const REMOVED_0135: &str =
+    "44000000210000000398026b2932000002001800000000060000000008000f000000000008000e00ffff\
+    ffff050015000000000008000600ca000000080002000a090c00";
+
+/// The route to 10.1.0.0/16, and its replacement; of IPv6 the routes of two links to ff00::/8, and the removal of the first.
+const ROUTE_0110: &str =
+    "3c00000018000006fb97026b8e31000002100000fe0300010000000008000f00fe000000080001000a01\
+    000008000500c00002090800040003000000";
+
+const REPLACED_0123: &str =
+    "3c00000018000001ff97026bc031000002100000fe0300010000000008000f00fe000000080001000a01\
+    000008000500c000020a0800040003000000";
+
+const ROUTE_0027: &str =
+    "740000001800000400000000000000000a080000ff0200050000000008000f00ff00000014000100ff00\
+    00000000000000000000000000000800060000010000080004000400000024000c000000000000000000\
+    0000000000000000000000000000000000000000000000000500140000000000";
+
+const ROUTE_0053: &str =
+    "740000001800000400000000000000000a080000ff0200050000000008000f00ff00000014000100ff00\
+    00000000000000000000000000000800060000010000080004000700000024000c000000000000000000\
+    0000000000000000000000000000000000000000000000000500140000000000";
+
+const REMOVED_0088: &str =
+    "740000001900000000000000000000000a080000ff0200050000000008000f00ff00000014000100ff00\
+    00000000000000000000000000000800060000010000080004000400000024000c000000000000000000\
+    0000000000000000000000000000000000000000000000000500140000000000";
+
+/// The next hops 11, 13 and 14, and one more.
+const NEXT_HOPS_0187: &str =
+    "300000006800020005040000a37ff6be02fd000000000000080001000b00000008000500030000000800\
+    0600c00002093c0000006800020005040000a37ff6be0000000000000000080001000d00000006000300\
+    000000000c0002000b0000000100000008000e00000000803c0000006800020005040000a37ff6be0afd\
+    000000000000080001000e00000008000500030000001400060020010db8000000000000000000000009\
+    140000000300020005040000a37ff6be00000000";
+
+const NEXT_HOP_0121: &str =
+    "3000000068000506ff97026bb731000002fd000000000000080001000c00000008000500040000000800\
+    0600c6336409";
+
+/// A neighbour of IPv6 (message 4 of the dump), and its removal; an entry of a bridge's forwarding table, and its removal.
+const NEIGHBOUR_0233: &str =
+    "580000001c0002002e04000015d185830a000000040000004000000514000100ff020000000000000000\
+    0001ff0000030a0002003333ff00000300000800040000000000140003003f180000cf000000cf000000\
+    00000000";
+
+const REMOVED_0089: &str =
+    "580000001d00000000000000000000000a000000040000004000000514000100ff020000000000000000\
+    0001ff0000030a0002003333ff00000300000800040000000000140003008c1800001c0100001c010000\
+    00000000";
+
+const ENTRY_0127: &str =
+    "4c0000001c00000000000000000000000700000002000000400000000a0002000200000000aa00000800\
+    09000500000008000f00000000001400030000000000000000000000000000000000";
+
+const REMOVED_0446: &str =
+    "4c0000001d00000000000000000000000700000002000000400000000a0002000200000000aa00000800\
+    09000500000008000f000000000014000300000000004e0500004e05000000000000";
+
+/// The keys of those addresses: family and prefix, link, `IFA_LOCAL`, `IFA_ADDRESS`.
+const ADDRESSES: [(&str, Change); 6] = [
+    ("020801000000080002007f000001080001007f000001", New),
+    ("02180300000008000200c000020108000100c0000201", New),
+    ("02180300000008000200c000020208000100c0000202", New),
+    ("02180400000008000200c633640108000100c6336401", New),
+    ("02200400000008000200cb00710108000100cb007102", New),
+    ("021005000000080002000a090001080001000a090001", New),
+];
+
+/// The keys of such entries: the port, the address (`NDA_LLADDR`), the bridge (`NDA_MASTER`).
+fn entries() -> Keys {
+    Keys {
+        new_type: 28,
+        gone_type: 29,
+        family: Some(7),
+        header: 12,
+        parts: [
+            Part::Bytes(4, 8),
+            Part::Attribute(2),
+            Part::Attribute(9),
+            Part::Nothing,
+            Part::Nothing,
+            Part::Nothing,
+        ],
+    }
+}
+
+const SCRIPT_OF_ADDRESSES: Script = (
+    "addresses",
+    &[
+        Requested(1005),
+        Answer(ADDRESSES_0155),
+        Ended(1005, Verdict::Complete, Some(&ADDRESSES)),
+        Notified(PEER_0099, None),
+        Notified(MADE_0105, Some(New)),
+        Notified(REMOVED_0090, Some(Gone)),
+        Count(6),
+    ],
+);
+
+const SCRIPT_OF_RULES: Script = (
+    "rules",
+    &[
+        Requested(1),
+        Ended(1, Verdict::Complete, Some(&[])),
+        Notified(RULE_0132, Some(New)),
+        Notified(RULE_0133, Some(New)),
+        Notified(REMOVED_0135, Some(Gone)),
+        Count(1),
+    ],
+);
+
+const SCRIPT_OF_ROUTES: Script = (
+    "routes",
+    &[
+        Requested(1),
+        Ended(1, Verdict::Complete, Some(&[])),
+        Notified(ROUTE_0110, Some(New)),
+        Notified(ROUTE_0027, None),
+        Notified(REPLACED_0123, Some(Changed)),
+        Count(1),
+    ],
+);
+
+const SCRIPT_OF_IPV6: Script = (
+    "routes of IPv6",
+    &[
+        Requested(1),
+        Ended(1, Verdict::Complete, Some(&[])),
+        Notified(ROUTE_0027, Some(New)),
+        Notified(ROUTE_0053, Some(New)),
+        Notified(ROUTE_0110, None),
+        Notified(REMOVED_0088, Some(Gone)),
+        Count(1),
+    ],
+);
+
+const SCRIPT_OF_NEXT_HOPS: Script = (
+    "next hops",
+    &[
+        Requested(1029),
+        Answer(NEXT_HOPS_0187),
+        Ended(
+            1029,
+            Verdict::Complete,
+            Some(&[
+                ("080001000b000000", New),
+                ("080001000d000000", New),
+                ("080001000e000000", New),
+            ]),
+        ),
+        Notified(NEXT_HOP_0121, Some(New)),
+        Is(Current),
+        Count(4),
+    ],
+);
+
+const SCRIPT_OF_NEIGHBOURS: Script = (
+    "neighbours",
+    &[
+        Requested(1070),
+        Answer(NEIGHBOUR_0233),
+        Ended(
+            1070,
+            Verdict::Complete,
+            Some(&[(
+                "0400000014000100ff0200000000000000000001ff000003",
+                New,
+            )]),
+        ),
+        Notified(ENTRY_0127, None),
+        Notified(REMOVED_0089, Some(Gone)),
+        Count(0),
+    ],
+);
+
+const SCRIPT_OF_ENTRIES: Script = (
+    "entries of a bridge's forwarding table",
+    &[
+        Requested(1),
+        Ended(1, Verdict::Complete, Some(&[])),
+        Notified(ENTRY_0127, Some(New)),
+        Count(1),
+        Notified(REMOVED_0446, Some(Gone)),
+        Count(0),
+    ],
+);
+
+#[test]
+fn recorded_objects_are_kept(rt: HostRuntime) {
+    for (keys, script) in [
+        (Keys::addresses(), SCRIPT_OF_ADDRESSES),
+        (Keys::rules(), SCRIPT_OF_RULES),
+        (Keys::routes(), SCRIPT_OF_ROUTES),
+        (Keys::routes_of_ipv6(), SCRIPT_OF_IPV6),
+        (Keys::next_hops(), SCRIPT_OF_NEXT_HOPS),
+        (Keys::neighbours(10), SCRIPT_OF_NEIGHBOURS),
+        (entries(), SCRIPT_OF_ENTRIES),
+    ] {
+        assert!(rt; play(&rt, rt.alloc(), keys, script).is_ok());
+    }
+}
