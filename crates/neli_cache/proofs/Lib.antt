@@ -1,3 +1,4 @@
 pub mod Keyed
 pub mod Folded
 pub mod Steps
+pub mod Told

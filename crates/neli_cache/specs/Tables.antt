@@ -1,6 +1,7 @@
 -- Objects by their keys.
 use Rattle.std.specs.Prelude.{ℕ, List, map, Option, if◌then◌else◌, Vec}
-use Rattle.std.specs.Map.{lookup}
+use Rattle.std.specs.List.{IsDistinct}
+use Rattle.std.specs.Map.{keys_of, lookup}
 use Rattle.std.specs.Str.{bytes_eq}
 
 -- a key and its object, bytes both
@@ -10,6 +11,10 @@ Objects = List (List ℕ × List ℕ)
 -- the entries of a map, by their bytes
 abbrev pub shown : {Z : Type 0} → List (Vec ℕ Z × Vec ℕ Z) → Objects
 shown es = map (λ e. (e.0.items, e.1.items)) es
+
+-- no two objects have the same key
+abbrev pub AreKeyed : Objects → Type 0
+AreKeyed t = IsDistinct bytes_eq (keys_of t)
 
 -- the object with this key
 abbrev pub at : List ℕ → Objects → Option (List ℕ)

@@ -1,5 +1,6 @@
 //! Laws: what the table of a cache is, whatever calls it has.
 
+ghost use Rattle.neli_cache.specs.Differences.{ChangesAreToldOnce};
 ghost use Rattle.neli_cache.specs.Histories.{CurrentIsTheFold, FoldIsTheLast, FreshAsItsList};
 
 /// Messages that are folded leave of each object what the last one about it says: its payload, or that it is gone.
@@ -17,4 +18,9 @@ pub fn current_is_the_fold()
 /// ([`neli_session::laws::last_request_decides`]).
 pub fn fresh_as_its_list()
     ensures { FreshAsItsList }
+{}
+
+/// From one table to the next, of each object what became of it is told once, and nothing where it is the same.
+pub fn changes_are_told_once()
+    ensures { ChangesAreToldOnce }
 {}

@@ -4,7 +4,7 @@ ghost use Rattle.std.specs.Prelude.{◌≡◌, ℕ, [], List, None, Some, IfOk, 
 ghost use Rattle.std.specs.Option.{option_copied};
 ghost use Rattle.std.specs.Map.Iter.{deref_pair};
 ghost use Rattle.neli_cache.specs.Changes.{change_of};
-ghost use Rattle.neli_cache.specs.Tables.{at, put_at, shown};
+ghost use Rattle.neli_cache.specs.Tables.{AreKeyed, at, put_at, shown};
 
 use crate::Change;
 use indexmap::IndexMap;
@@ -62,7 +62,8 @@ impl Table {
 
     /// The number of objects.
     pub fn len(&self) -> usize
-        ensures { result ≡ length self.now }
+        ensures length { result ≡ length self.now }
+        ensures keyed { AreKeyed self.now }
     {
         self.entries.len()
     }
