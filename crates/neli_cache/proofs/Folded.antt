@@ -27,7 +27,8 @@ said-last q (Some s) o = go (bytes_eq s.0 q)
     go true = refl
     go false = refl
 
-pub folded-last : (q : List ℕ) (ss : List (Option Said)) (o : Option (List ℕ)) → folded q ss o ≡ unwrap_or (last_of q ss) o
+pub folded-last : (q : List ℕ) (ss : List (Option Said)) (o : Option (List ℕ))
+    → folded q ss o ≡ unwrap_or (last_of q ss) o
 folded-last q [] o = refl
 folded-last q (s ∷ ss) o = folded-last q ss (after_said q s o) ∙ go (last_of q ss)
   where
@@ -52,7 +53,8 @@ about-one q (Some s) o p is = ap (λ (b : Bool). if b then s.1 else o) is
 module _ (ks : Keys) (q : List ℕ) where
   -- a stale cache is stale until it is requested
   pub stale-until : (es : List Event) (now next : Option (List ℕ)) (h : Bool) → list_any is_request es ≡ false
-      → is_current (after_events ks q es (record { freshness = list.Stale; now = now; next = next; is_heard = h })).freshness
+      → is_current (after_events ks q es
+      (record { freshness = list.Stale; now = now; next = next; is_heard = h })).freshness
       ≡ false
   stale-until [] now next h none = refl
   stale-until (Requested n ∷ es) now next h none = absurd (true≢false none)
@@ -63,7 +65,8 @@ module _ (ks : Keys) (q : List ℕ) where
 
   -- a current one takes in the notifications
   pub current-until : (es : List Event) (now next : Option (List ℕ)) (h : Bool) → list_any is_request es ≡ false
-      → is_current (after_events ks q es (record { freshness = list.Current; now = now; next = next; is_heard = h })).freshness
+      → is_current (after_events ks q es
+      (record { freshness = list.Current; now = now; next = next; is_heard = h })).freshness
       ≡ true
       → (after_events ks q es (record { freshness = list.Current; now = now; next = next; is_heard = h })).now
       ≡ folded q (notifications_in ks es) now

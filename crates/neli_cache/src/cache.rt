@@ -31,7 +31,8 @@ pub struct Cache {
     pub(crate) heard: Table,
 }
 
-/// Folds a message into a table; returns what became of its object. Refused only if memory runs out; then nothing changes.
+/// Folds a message into a table; returns what became of its object. Refused only if memory runs out; then nothing
+/// changes.
 fn fold(
     alloc: Global,
     keys: &Keys,
@@ -40,7 +41,8 @@ fn fold(
 ) -> Result<Option<Change>, NoMemory>
     ensures folded { OnOk result ((q : List ℕ) → at q table.new
         ≡ after_said q (said keys.now (message_view message.now)) (at q table.old)) }
-    ensures change { IfOk result (λ c. c ≡ change_by (said keys.now (message_view message.now)) table.old) }
+    ensures change { IfOk result (λ c. c
+        ≡ change_by (said keys.now (message_view message.now)) table.old) }
     ensures unchanged { OnErr result (table.new ≡ table.old) }
 {
     match keys.read(alloc, message)? {
@@ -141,7 +143,8 @@ impl Cache {
         self.heard = Table::new(self.alloc);
     }
 
-    /// Something was lost of what came to groups: the cache is stale.
+    /// Something was lost of what came to groups: the cache is stale. Before the list is requested again, what waits of
+    /// groups is to be read to its end: Linux reports a loss before what it had kept, which is older than the dump.
     pub fn lost(&mut self)
         ensures lost { (q : List ℕ) → seen_at q self.new
             ≡ after_event self.old.keys q Lost (seen_at q self.old) }
@@ -152,11 +155,12 @@ impl Cache {
         self.heard = Table::new(self.alloc);
     }
 
-    /// Takes in a message of an answer: nothing, if it is not that of the dump which is being read. Refused only if memory
-    /// runs out; then the cache is stale, as after a loss.
+    /// Takes in a message of an answer: nothing, if it is not that of the dump which is being read. Refused only if
+    /// memory runs out; then the cache is stale, as after a loss.
     pub fn take_answer(&mut self, message: &LentMessage<'_, u16>) -> Result<(), NoMemory>
         ensures taken { OnOk result ((q : List ℕ) → seen_at q self.new
-            ≡ after_event self.old.keys q (Answered (message_view message.now)) (seen_at q self.old)) }
+            ≡ after_event self.old.keys q (Answered (message_view message.now))
+            (seen_at q self.old)) }
         ensures refused { OnErr result ((q : List ℕ) → seen_at q self.new
             ≡ after_event self.old.keys q Lost (seen_at q self.old)) }
         ensures keys { self.new.keys ≡ self.old.keys }
@@ -175,7 +179,8 @@ impl Cache {
     /// Takes in a notification. Refused only if memory runs out; then the table is as it was.
     fn hear(&mut self, message: &LentMessage<'_, u16>) -> Result<Option<Change>, NoMemory>
         ensures taken { OnOk result ((q : List ℕ) → seen_at q self.new
-            ≡ after_event self.old.keys q (Notified (message_view message.now)) (seen_at q self.old)) }
+            ≡ after_event self.old.keys q (Notified (message_view message.now))
+            (seen_at q self.old)) }
         ensures change { IfOk result (λ c. c ≡ change_when self.old.freshness
             (said self.old.keys (message_view message.now)) self.old.objects) }
         ensures unchanged { OnErr result (self.new.objects ≡ self.old.objects) }
@@ -197,15 +202,16 @@ impl Cache {
         }
     }
 
-    /// Takes in a notification; returns what became of its object in the table. While the dump is read it is kept for the
-    /// dump's end, and while the cache is stale it is dropped: then the table stays as it is. Refused only if memory runs
-    /// out; then the cache is stale, as after a loss.
+    /// Takes in a notification; returns what became of its object in the table. While the dump is read it is kept for
+    /// the dump's end, and while the cache is stale it is dropped: then the table stays as it is. Refused only if
+    /// memory runs out; then the cache is stale, as after a loss.
     pub fn take_notification(
         &mut self,
         message: &LentMessage<'_, u16>,
     ) -> Result<Option<Change>, NoMemory>
         ensures taken { OnOk result ((q : List ℕ) → seen_at q self.new
-            ≡ after_event self.old.keys q (Notified (message_view message.now)) (seen_at q self.old)) }
+            ≡ after_event self.old.keys q (Notified (message_view message.now))
+            (seen_at q self.old)) }
         ensures change { IfOk result (λ c. c ≡ change_when self.old.freshness
             (said self.old.keys (message_view message.now)) self.old.objects) }
         ensures refused { OnErr result ((q : List ℕ) → seen_at q self.new

@@ -8,7 +8,8 @@ use crate::{Change, Table};
 
 /// The key of an entry that is new or was changed, and what became of its object.
 fn changed_at<'t>(before: &Table, now: &'t Table, index: usize) -> Option<(&'t [u8], Change)>
-    ensures { option_map named result ≡ option_and_then (changed_from before.now) (slice_get now.now index) }
+    ensures { option_map named result
+        ≡ option_and_then (changed_from before.now) (slice_get now.now index) }
 {
     match now.entry(index) {
         None => None,
@@ -21,7 +22,8 @@ fn changed_at<'t>(before: &Table, now: &'t Table, index: usize) -> Option<(&'t [
 
 /// The key of an entry that is gone.
 fn gone_at<'t>(before: &'t Table, now: &Table, index: usize) -> Option<(&'t [u8], Change)>
-    ensures { option_map named result ≡ option_and_then (gone_from now.now) (slice_get before.now index) }
+    ensures { option_map named result
+        ≡ option_and_then (gone_from now.now) (slice_get before.now index) }
 {
     match before.entry(index) {
         None => None,

@@ -11,8 +11,8 @@ use neli_consts_routing::Rtm;
 use neli_wire::Constant;
 
 impl Keys {
-    /// Links, by their index: `ifi_index`, four bytes. What bridges say of their ports is not meant: Linux tells that with
-    /// the same types, in the family `AF_BRIDGE`.
+    /// Links, by their index: `ifi_index`, four bytes. What bridges say of their ports is not meant: Linux tells that
+    /// with the same types, in the family `AF_BRIDGE`.
     pub fn links() -> Keys
         ensures { result ≡ links }
     {
@@ -65,8 +65,8 @@ impl Keys {
         }
     }
 
-    /// Routes of IPv4, by destination and its length, type of service, table and metric. Of several with the same of these
-    /// the last one counts. Linux tells nobody of those that go with their link.
+    /// Routes of IPv4, by destination and its length, type of service, table and metric. Of several with the same of
+    /// these the last one counts. Linux tells nobody of those that go with their link.
     pub fn routes() -> Keys
         ensures { result ≡ routes }
     {

@@ -16,8 +16,8 @@ pub enum Part {
     Nothing,
     /// Those from the first place up to the second, or to the payload's end where that comes first.
     Bytes(usize, usize),
-    /// The first attribute of this type behind the header, its header and its payload as they stand. No bytes where there
-    /// is none, or where one before it cannot be read.
+    /// The first attribute of this type behind the header, its header and its payload as they stand. No bytes where
+    /// there is none, or where one before it cannot be read.
     Attribute(u16),
 }
 

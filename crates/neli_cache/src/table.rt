@@ -78,7 +78,8 @@ impl Table {
         }
     }
 
-    /// The key and the payload of the object at an index, below [`Table::len`]. Their order is kept until an object goes.
+    /// The key and the payload of the object at an index, below [`Table::len`]. Their order is kept until an object
+    /// goes.
     pub fn entry(&self, index: usize) -> Option<(&[u8], &[u8])>
         ensures { option_map deref_pair result ≡ slice_get self.now index }
     {

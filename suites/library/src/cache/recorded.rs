@@ -208,10 +208,7 @@ const SCRIPT_OF_NEIGHBOURS: Script = (
         Ended(
             1070,
             Verdict::Complete,
-            Some(&[(
-                "0400000014000100ff0200000000000000000001ff000003",
-                New,
-            )]),
+            Some(&[("0400000014000100ff0200000000000000000001ff000003", New)]),
         ),
         Notified(ENTRY_0127, None),
         Notified(REMOVED_0089, Some(Gone)),

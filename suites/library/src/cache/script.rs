@@ -38,12 +38,7 @@ pub fn bytes_of(rt: &impl Abort, alloc: Global, text: &str) -> Vec<u8> {
     }
 }
 
-fn check_changes(
-    rt: &impl Abort,
-    alloc: Global,
-    changes: Changes<'_>,
-    want: &[(&str, Change)],
-) {
+fn check_changes(rt: &impl Abort, alloc: Global, changes: Changes<'_>, want: &[(&str, Change)]) {
     let mut place = 0;
     for (key, change) in changes {
         assert!(rt; place < want.len());
