@@ -38,9 +38,11 @@
 //! }
 //! ```
 
-pub use neli_cache::{Cache, Change, Changes, Keys, Part, Table};
+pub use neli_cache::{Cache, Change, Changes, Entries, Keys, Part, Table};
 
 /// Laws: what the table of a cache is, whatever calls it has.
 pub mod laws {
-    pub use neli_cache::laws::{current_is_the_fold, fold_is_the_last, fresh_as_its_list};
+    pub use neli_cache::laws::{
+        changes_are_told_once, current_is_the_fold, fold_is_the_last, fresh_as_its_list,
+    };
 }

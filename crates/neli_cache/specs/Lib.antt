@@ -5,3 +5,4 @@ pub mod Families
 pub mod Fold
 pub mod Histories
 pub mod Differences
+pub mod Walks

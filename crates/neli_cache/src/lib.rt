@@ -17,9 +17,11 @@ mod families;
 mod keys;
 pub mod laws;
 mod table;
+mod walk;
 
 pub use cache::Cache;
 pub use change::Change;
 pub use difference::Changes;
 pub use keys::{Keys, Part};
 pub use table::Table;
+pub use walk::Entries;

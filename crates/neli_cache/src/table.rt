@@ -4,9 +4,10 @@ ghost use Rattle.std.specs.Prelude.{◌≡◌, ℕ, [], List, None, Some, IfOk, 
 ghost use Rattle.std.specs.Option.{option_copied};
 ghost use Rattle.std.specs.Map.Iter.{deref_pair};
 ghost use Rattle.neli_cache.specs.Changes.{change_of};
+ghost use Rattle.neli_cache.specs.Walks.{entries_left};
 ghost use Rattle.neli_cache.specs.Tables.{AreKeyed, at, put_at, shown};
 
-use crate::Change;
+use crate::{Change, Entries};
 use indexmap::IndexMap;
 use neli_wire::NoMemory;
 use std::alloc::Global;
@@ -76,6 +77,13 @@ impl Table {
             None => None,
             Some(payload) => Some(payload.as_slice()),
         }
+    }
+
+    /// The objects, each with its key and its payload.
+    pub fn iter(&self) -> Entries<'_>
+        ensures { entries_left result ≡ self.now }
+    {
+        Entries::new(self)
     }
 
     /// The key and the payload of the object at an index, below [`Table::len`]. Their order is kept until an object

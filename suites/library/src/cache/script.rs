@@ -66,6 +66,16 @@ fn notified(
     cache.take_notification(&LentMessage::lend(&mut cursor).expect(rt, "a message"))
 }
 
+fn check_count(rt: &impl Abort, cache: &Cache, want: usize) {
+    let mut count = 0;
+    for (key, payload) in cache.table().iter() {
+        assert_eq!(rt; cache.table().get(key), Some(payload));
+        count += 1;
+    }
+    assert_eq!(rt; count, want);
+    assert_eq!(rt; cache.table().len(), want);
+}
+
 fn check_has(rt: &impl Abort, alloc: Global, cache: &Cache, key: &str, payload: Option<&str>) {
     let key = bytes_of(rt, alloc, key);
     let got = cache.table().get(&key);
@@ -94,7 +104,7 @@ fn take(rt: &impl Abort, alloc: Global, cache: &mut Cache, step: Step) -> Result
         },
         Step::Lost => cache.lost(),
         Step::Is(freshness) => assert_eq!(rt; cache.freshness(), freshness),
-        Step::Count(count) => assert_eq!(rt; cache.table().len(), count),
+        Step::Count(count) => check_count(rt, cache, count),
         Step::Has(key, payload) => check_has(rt, alloc, cache, key, payload),
     }
     Ok(())
