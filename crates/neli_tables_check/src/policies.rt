@@ -280,7 +280,8 @@ impl Policies {
     }
 
     /// Checks attributes by a policy, as the kernel's strict parser does, nests and arrays of nests too. An attribute
-    /// without a row is refused as unknown, also where the kernel checks it by a function of its own.
+    /// without a row is refused as unknown, also where the kernel states none, as of a number in network byte order. What
+    /// the kernel checks by a function of its own passes.
     ///
     /// Refused with the first that the policy does not allow, and its offset.
     pub fn check(&self, policy: usize, attributes: &[u8]) -> Result<(), Unmet>
