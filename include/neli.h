@@ -1039,9 +1039,10 @@ static inline int32_t neli_session_is_in_use(struct neli_session *session, uint3
 
 /* ---- How Linux answers ---- */
 
-/* What happens to a list that a program keeps current by what comes to its group: it was requested with this sequence
- * number; its request has ended with a verdict of this code, NELI_OK if it is whole; or something was lost of what came
- * to groups. Where it is stale then, drop what came to groups and request it again. */
+/* What happens to a list that a program keeps current by what comes to its group: it was requested with this number, the
+ * sequence number or another that tells its requests apart; the request with this number has ended with a verdict of
+ * this code, NELI_OK if it is whole; or something was lost of what came to groups, which concerns all lists. Each returns
+ * NELI_OK, and `state` says whether the list is to be requested. The end of another request changes nothing. */
 static inline int32_t neli_list_requested(struct neli_list *list, uint32_t number) {
     return list != NULL ? neli_c_list_requested(list, number) : NELI_NULL;
 }

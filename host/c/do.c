@@ -386,7 +386,8 @@ static enum status do_batch(const char *path) {
     ssize_t length;
     while (status == STATUS_COMPLETE && (length = getline(&text, &room, file)) >= 0) {
         line++;
-        if (strspn(text, " \t\r\n") != (size_t)length) status = do_json(text, (size_t)length);
+        while (length > 0 && strchr(" \t\r\n", text[length - 1]) != NULL) length--;
+        if (length > 0) status = do_json(text, (size_t)length);
     }
     if (status == STATUS_COMPLETE && ferror(file)) status = refuse(STATUS_NOT_BEGUN, "%s: %s", path, strerror(errno));
     free(text);

@@ -185,7 +185,7 @@ impl<'w, 't> Message<'w, 't> {
     #[cycle(lists)]
     fn take_hop<'v>(&mut self, item: &'v Value, depth: usize) -> Result<(), (&'v str, Why)> {
         let Some(inner) = item.get("attributes") else {
-            return Err(("", Why::NoName));
+            return Err(("", Why::NoValue));
         };
         named(self.open_hop(), "")?;
         self.take_opened(item, inner, depth)
@@ -265,7 +265,7 @@ impl<'w, 't> Message<'w, 't> {
     /// An attribute with a value.
     fn take_value(&mut self, item: &Value, items: &[Value]) -> Result<(), Why> {
         let number = self.number(item)?;
-        let value = item.get("value").ok_or(Why::NoName)?;
+        let value = item.get("value").ok_or(Why::NoValue)?;
         let mut bytes = self.value_of(number, value, items)?;
         let rest = self.rest_of(item)?;
         bytes.extend_from_slice(&rest)?;

@@ -29,6 +29,25 @@ const LAST_ID: u16 = 1023;
 /// The flag of a message to the kernel (`NLM_F_REQUEST`).
 const REQUEST: u16 = 1;
 
+/// The members of an object that is a whole message: those that are printed of one.
+const MEMBERS: [&str; 15] = [
+    "protocol",
+    "type",
+    "name",
+    "length",
+    "flags",
+    "seq",
+    "port",
+    "command",
+    "version",
+    "reserved",
+    "structure",
+    "fields",
+    "attributes",
+    "payload",
+    "rest",
+];
+
 /// A message that JSON asks for: what its header says, and its payload.
 #[derive(Debug, Drop)]
 pub struct Written {
@@ -58,6 +77,16 @@ fn asked_name(value: &Value) -> Option<&str>
     ensures { option_map (λ name. name.now) result ≡ asked_name (view value.now) }
 {
     value.get("name")?.as_str()
+}
+
+/// The first member of an object that no message has.
+fn other_member(value: &Value) -> Option<&str> {
+    for (name, _) in value.as_object()?.iter() {
+        if !MEMBERS.iter().any(|member| *member == name.as_str()) {
+            return Some(name.as_str());
+        }
+    }
+    None
 }
 
 /// A member that is a number of at most so much; `None` where it is missing.
@@ -300,8 +329,8 @@ fn message_named<'t>(
 /// is that of its line, or of the family of generic netlink, as it was learnt. Others are those of
 /// [`Message::from_json`].
 ///
-/// Refused as that is; with [`Why::NoName`] where no table of the protocol has such a message; and with
-/// [`Why::NoFamily`] where the number of its family is not known.
+/// Refused as that is; with [`Why::NoName`] where no table of the protocol has such a message, or the object has a member
+/// that is none of a message; and with [`Why::NoFamily`] where the number of its family is not known.
 pub fn message_from_json<'t>(
     alloc: Global,
     tables: &Tables<'t>,
@@ -310,6 +339,9 @@ pub fn message_from_json<'t>(
 ) -> Result<Written, Refusal<'t>>
     ensures { IfOk result (IsMessageOf tables.now protocol (view value.now)) }
 {
+    if let Some(member) = other_member(value) {
+        return Err(Refusal::of(alloc, member, Why::NoName));
+    }
     match asked_name(value) {
         Some(name) => message_named(alloc, tables, protocol, name, value),
         None => Err(Refusal::of(alloc, "name", Why::NoName)),

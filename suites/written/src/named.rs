@@ -209,8 +209,18 @@ fn objects_of_names(rt: HostRuntime) -> Result<(), Fail> {
 #[test]
 fn refused_objects_of_names(rt: HostRuntime) -> Result<(), Fail> {
     let alloc = rt.alloc();
-    let rows: [(u16, &str, &str); 14] = [
+    let rows: [(u16, &str, &str); 16] = [
         (0, "[]", "name: no such name"),
+        (
+            0,
+            "{\"name\":\"RTM_NEWLINK\",\"attribute\":{\"IFLA_MTU\":1}}",
+            "attribute: no such name",
+        ),
+        (
+            0,
+            "{\"name\":\"RTM_NEWLINK\",\"attributes\":[{\"name\":\"IFLA_IFNAME\",\"valu\":\"x\"}]}",
+            "IFLA_IFNAME: no such value",
+        ),
         (0, "{\"name\":\"RTM_NEWLUNK\"}", "RTM_NEWLUNK: no such name"),
         (
             16,
