@@ -75,7 +75,7 @@ fn refusals_say_why(rt: HostRuntime) -> Result<(), Fail> {
             b"RTM_NEWLIN: no such name",
             24,
         ),
-        (b"{\"nam\":\"RTM_NEWLINK\"}", b"name: no such name", 18),
+        (b"{\"nam\":\"RTM_NEWLINK\"}", b"nam: no such name", 17),
         (b"[]", b"name: no such name", 18),
         (
             b"{\"name\":\n\"RTM_NEWLINK\",}",
