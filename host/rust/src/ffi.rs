@@ -188,6 +188,13 @@ unsafe extern "C" {
     fn neli_c_session_verdict(session: *mut Opaque, number: u32, verdict: *mut Verdict) -> i32;
     fn neli_c_session_close(session: *mut Opaque, number: u32) -> i32;
     fn neli_c_session_close_multicast(session: *mut Opaque) -> i32;
+    fn neli_c_is_passing(code: i32, error: i32) -> i32;
+}
+
+/// Whether a list with this verdict's code and error may be complete when it is requested again.
+pub fn is_passing(code: i32, error: i32) -> bool {
+    // SAFETY: two numbers are passed.
+    unsafe { neli_c_is_passing(code, error) != 0 }
 }
 
 /// The text of a code.

@@ -8,8 +8,7 @@ use crate::nl::{NlType, Nlmsghdr};
 use crate::socket::synchronous::is_end_of_wait;
 use crate::types::Buffer;
 
-/// The errors of the kernel after which a dump can be requested again; by the second a socket also says that it ran over.
-const EBUSY: i32 = 16;
+/// The error by which a socket says that its buffer ran over.
 const ENOBUFS: i32 = 105;
 
 /// The verdict on an answer. All but [`Verdict::Pending`] are final.
@@ -67,8 +66,12 @@ impl Verdict {
 
     /// Whether the list may be complete when it is requested again.
     pub(super) fn is_passing(self) -> bool {
-        let is_busy = matches!(self, Verdict::Failed(code) if [-EBUSY, -ENOBUFS].contains(&code));
-        is_busy || matches!(self, Verdict::Interrupted | Verdict::Lost(Loss::Link))
+        match self {
+            Verdict::Failed(code) => ffi::is_passing(ffi::KERNEL_ERROR, code),
+            Verdict::Interrupted => ffi::is_passing(ffi::INTERRUPTED, 0),
+            Verdict::Lost(Loss::Link) => ffi::is_passing(ffi::LINK, ENOBUFS),
+            _ => false,
+        }
     }
 }
 
